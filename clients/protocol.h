@@ -167,9 +167,9 @@ struct page_answer {
 
 /*
  * In the stream a transaction or reply has, in `data.ptr.buffer` and `data.ptr.offsets`, places in the area. Behind
- * the offsets, at the next multiple of 8, are the buffers of PTR objects; the `buffer` of such an object is the place
- * among them. An FD object, and each element of an FDA's array, has the descriptor's index in the packet. A parcel
- * that doesn't fit into the area has PAGE_NOWHERE for its places.
+ * the offsets, at the next multiple of 8, are the buffers of PTR objects, one behind the other in the order of these, each up
+ * to a multiple of 8. The descriptors of FD and FDA objects are in the packet, in the same order; only one parcel of a request has any. A
+ * parcel that doesn't fit into the area, or of which something can't be had, has PAGE_NOWHERE for its places.
  */
 #define PAGE_NOWHERE UINT64_MAX
 

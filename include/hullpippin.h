@@ -91,11 +91,12 @@ typedef struct {
 enum {
     HULLPIPPIN_DONE = 0,            /* it was made */
     HULLPIPPIN_NO_MEMORY = 1,       /* malloc gave none for the call's own copies; it may be made again */
-    HULLPIPPIN_WAITING = 2,         /* a request of this seat is handed over: collect or withdraw it first */
+    HULLPIPPIN_WAITING = 2,         /* a request of this seat is handed over: collect or withdraw it first; live_open, live_attach:
+                                       the seat waits (hullpippin_bridge_wait) */
     HULLPIPPIN_NOT_WAITING = 3,     /* no request of this seat is handed over */
     HULLPIPPIN_TAKEN = 4,           /* serve: another seat has the engine */
     HULLPIPPIN_NO_SUCH_REQUEST = 5, /* post: there is no such kind of request; post, set_spam, live_set_spam: `on` is
-                                       neither 0 nor 1; again: none came back */
+                                       neither 0 nor 1; bridge_wait: nor is `defers`; again: none came back */
     HULLPIPPIN_SEAT_COUNT = 6,      /* new: the number of seats isn't 1 to 31; live_new: 1 to 65536 */
     HULLPIPPIN_NO_SEAT_LEFT = 7,    /* take_seat: all seats are taken */
     HULLPIPPIN_SEATS_AWAY = 8,      /* finish: a seat isn't back */
@@ -521,6 +522,72 @@ uint32_t hullpippin_live_ask_reached(hullpippin_live *live, size_t *count);
    They stay until its next call that is DONE. Takes no memory. */
 bool hullpippin_live_reached(hullpippin_live *live, size_t index, hullpippin_todo_list *list);
 
+/*
+ * Bridges: a live engine that also knows who waits for something to read, and tells whom to wake. Whoever stands between an engine and
+ * threads, in whatever way these wait, tells it three things: that a thread begins to wait, that it has stopped, and each step, by the calls
+ * above, which are made with a bridge as with any live engine. It asks after each of them whom to wake:
+ *
+ *     hullpippin_bridge_wait(&live, seat, room, 1);
+ *     do {
+ *         hullpippin_bridge_settle(&live, 64, &signal);
+ *         .. wake signal.seat, where the signal is HULLPIPPIN_SIGNAL_READ and `wakes`, with what was read for it ..
+ *     } while (signal.is_left);
+ *
+ * Proved is that nobody is forgotten: whoever waits in a read has nothing to read, or is still to be looked at; where settle says that
+ * nobody is left, nobody who waits has. And nobody is woken twice, or for nothing. A bridge asks the engine itself whom its steps
+ * have reached: hullpippin_live_ask_reached has nothing to tell then.
+ *
+ * A thread that waits makes no open or attach: that is WAITING. Whoever ends it has it stop waiting too.
+ */
+
+/* As hullpippin_live_new, but that of each seat it is kept how it waits: at first none does. */
+uint32_t hullpippin_bridge_new(uint32_t seats, hullpippin_live *live);
+
+/* The seat's thread waits in a read from now on, with room for `room` bytes, which is at least 72; where it waits in one already, this one
+   takes its place. Where `defers` is 1, and not 0, what it need not be told before the reply to a call of its own may be read for it
+   meanwhile, and it waits on: BR_TRANSACTION_COMPLETE, BR_INCREFS and BR_ACQUIRE. That it is in a call, and serves none inside of that, is
+   asked of the engine. Also NO_SUCH_SEAT, where the engine is no bridge too; NO_MEMORY: then it waits as before; and
+   NO_SUCH_REQUEST, where `defers` is neither 0 nor 1. */
+uint32_t hullpippin_bridge_wait(hullpippin_live *live, uint32_t seat, uint32_t room, uint32_t defers);
+
+/* The seat's thread has a doorbell from now on, which is silent: it is told each time that it comes to have something to read,
+   or nothing any more. It may wait in a read as well. Also NO_SUCH_SEAT, and NO_MEMORY: then it waits as before. */
+uint32_t hullpippin_bridge_give_doorbell(hullpippin_live *live, uint32_t seat);
+
+/* The seat's thread waits no more in a read, as where that was interrupted. Its doorbell stays. Does nothing where it doesn't wait. Takes no
+   memory. Also NO_SUCH_SEAT. */
+uint32_t hullpippin_bridge_stop_reading(hullpippin_live *live, uint32_t seat);
+
+/* The same of its doorbell too. */
+uint32_t hullpippin_bridge_stop_waiting(hullpippin_live *live, uint32_t seat);
+
+/* A signal: its kind. */
+enum {
+    HULLPIPPIN_SIGNAL_NONE = 0, /* nobody who was looked at is to be told anything */
+    HULLPIPPIN_SIGNAL_READ = 1, /* this was read for a thread that waits in a read */
+    HULLPIPPIN_SIGNAL_BELL = 2, /* a thread's doorbell is to ring, or to be silent */
+};
+
+/* What a thread that waits is told. What a field doesn't apply to has 0 there. */
+typedef struct {
+    uint32_t kind;            /* HULLPIPPIN_SIGNAL_NONE .. */
+    uint32_t seat;            /* the thread's */
+    bool wakes;               /* read: it is woken, and waits in a read no more: its read is answered with this, and with whatever was read for it
+                                 since it was woken last; else it waits on */
+    bool rings;               /* bell: it rings from now on, and else is silent */
+    bool is_left;             /* somebody is still to be looked at */
+    uint32_t status;          /* read: what hullpippin_live_read would answer: DONE, NO_MEMORY, HISTORY_FULL */
+    hullpippin_answer answer; /* read, where that is DONE: as of hullpippin_live_read. It is the latest step */
+} hullpippin_signal;
+
+/* Looks at `looks` threads at most of those who wait and whom something has reached, who was named first at first, until one of them
+   is to be told something, and tells that. Each look at one that waits in a read, and has something to read, makes a step: its read.
+   Always DONE. It asks for no memory but for that step's. */
+uint32_t hullpippin_bridge_settle(hullpippin_live *live, uint32_t looks, hullpippin_signal *signal);
+
+/* How many threads are still to be looked at, some perhaps twice. Takes no memory. */
+size_t hullpippin_bridge_suspects(hullpippin_live *live);
+
 /* As hullpippin_answer_bytes, of the latest step; 0 where that isn't a read, or didn't get anything. */
 size_t hullpippin_live_bytes(hullpippin_live *live, uint32_t part, uint8_t *out, size_t room);
 
@@ -822,6 +889,47 @@ bool hullpippin_next_object(const uint8_t *data, size_t data_size, const uint8_t
 /* Writes an object over the 24 bytes from its `start` on. Answers 0, or the number of the cause by which a walk would refuse it
    there, X9 or X10, and then the data stays as it was. */
 uint32_t hullpippin_put_object(const hullpippin_flat_object *object, uint8_t *data, size_t data_size);
+
+/*
+ * Parcels with PTR, FD and FDA objects, which the engine knows nothing of: a bridge has them laid out as Linux's driver does, gives the
+ * engine what goes on, with the objects that it knows, and writes the fix-ups into what the receiver sees. Any thread may call these.
+ */
+
+/* What came of a parcel, and how much there is of it. Where it is refused all else is 0. */
+typedef struct {
+    bool is_refused; /* Linux's driver would refuse it for a PTR, FD or FDA object, or for where an object lies */
+    size_t size;     /* bytes that go on: the data, the offsets and the buffers, each up to a multiple of 8, with zeros */
+    size_t known;    /* objects of other types */
+    size_t fixups;   /* what is to be written once the parcel has its place */
+    size_t taken;    /* descriptors that go on, in the order of their objects: the first ones */
+} hullpippin_layout;
+
+/* What is to be written into a parcel. */
+typedef struct {
+    uint32_t kind; /* HULLPIPPIN_FIXUP_POINTER .. */
+    uint64_t at;   /* where it lies in the parcel */
+    uint64_t to;   /* pointer: where it leads in the parcel; descriptors: how many they are; else 0 */
+} hullpippin_fixup;
+
+/* What is to be written: its kind. */
+enum {
+    HULLPIPPIN_FIXUP_POINTER = 1,     /* the address of a buffer, 8 bytes */
+    HULLPIPPIN_FIXUP_DESCRIPTOR = 2,  /* the number of an FD object's descriptor, 8 bytes */
+    HULLPIPPIN_FIXUP_DESCRIPTORS = 3, /* those of an FDA object's, 4 bytes each */
+};
+
+/* Lays out the parcel of a transaction or reply: its data, its offsets, the buffers as their sender has put them one behind the other, each
+   up to a multiple of 8, and how many descriptors came with it. Tells in `layout` how much there is of what goes on, of the places of known
+   objects, and of fix-ups; each of these is copied if all of it fits, and else none of it. A PTR object's word of where its buffer lies,
+   and the numbers of descriptors, aren't looked at. Also NO_MEMORY, and NO_SUCH_REQUEST, where the buffers or descriptors are 4294967296
+   or more. */
+uint32_t hullpippin_lay_out(const uint8_t *data, size_t data_size, const uint8_t *offsets, size_t offsets_size, const uint8_t *buffers,
+                            size_t buffers_size, size_t descriptors, uint8_t *out, size_t room, uint64_t *known, size_t known_room,
+                            hullpippin_fixup *fixups, size_t fixups_room, hullpippin_layout *layout);
+
+/* Writes a fix-up into a parcel of `size` bytes, as it comes from the engine, whose receiver sees its first byte at `base`: an address, or -1
+   for each descriptor. False where it is none, or doesn't lie within the parcel, and then nothing is written. */
+bool hullpippin_put_fixup(const hullpippin_fixup *fixup, uint8_t *parcel, size_t size, uint64_t base);
 
 /* Room for every text, and the NUL behind it. */
 #define HULLPIPPIN_TEXT_ROOM 64

@@ -28,12 +28,17 @@ static bool drives(void)
     return is_made || fails("the driver's examples");
 }
 
-/* How often a list was told. */
-static int told;
+/* Who was told last to wake, and whose doorbell to ring. */
+static uint32_t woken, rung;
 
-static void look_at(hullpippin_todo_list list)
+static void wake(uint32_t seat)
 {
-    told += list.kind <= HULLPIPPIN_ANY_LIST;
+    woken = seat;
+}
+
+static void ring(uint32_t seat, bool rings)
+{
+    rung = rings ? seat : 0;
 }
 
 /* Runs a command with its parcel: an object, or nothing. */
@@ -81,10 +86,27 @@ static bool lives(FILE *journal)
     bool is_made = !hullpippin_live_new(3, &live) && !hullpippin_live_open(&live, 0, 100, 1000, 4096, &answer)
                    && !hullpippin_live_manager(&live, 0, &answer) && runs(&live, 0, enter, NULL, NULL)
                    && !hullpippin_live_open(&live, 1, 200, 2000, 4096, &answer) && recorded(&live, 2, journal) && ftell(journal) > 0
-                   && wakes(&live, look_at) && sends(&live, 1, 0, object) && wakes(&live, look_at) && told > 0 && reads(&live, 0) == 1
-                   && processes_in(&live) == 3;
+                   && sends(&live, 1, 0, object) && reads(&live, 0) == 1 && processes_in(&live) == 3;
     hullpippin_free_live(&live);
     return is_made || fails("the live engine's examples");
+}
+
+/* Of a manager that waits in a read, and a client that polls, each is told once that something has come. */
+static bool waits(void)
+{
+    enum { NOBODY = 9, MANAGER = 2, CLIENT = 1 };
+    hullpippin_live live = HULLPIPPIN_NO_LIVE;
+    hullpippin_answer answer;
+    hullpippin_flat_object object = {.kind = HULLPIPPIN_TYPE_BINDER, .binder = 0x1000, .cookie = 0x2000};
+    hullpippin_command enter = {.code = HULLPIPPIN_BC_ENTER_LOOPER};
+    woken = rung = NOBODY;
+    bool is_made = !hullpippin_bridge_new(3, &live) && !hullpippin_live_open(&live, MANAGER, 100, 1000, 4096, &answer)
+                   && !hullpippin_live_manager(&live, MANAGER, &answer) && runs(&live, MANAGER, enter, NULL, NULL)
+                   && !hullpippin_live_open(&live, CLIENT, 200, 2000, 4096, &answer) && !hullpippin_bridge_wait(&live, MANAGER, MOST, 0)
+                   && !hullpippin_bridge_give_doorbell(&live, CLIENT) && settled(&live, wake, ring) && woken == NOBODY && rung == NOBODY
+                   && sends(&live, CLIENT, 0, object) && settled(&live, wake, ring) && woken == MANAGER && rung == CLIENT;
+    hullpippin_free_live(&live);
+    return is_made || fails("the bridge's example");
 }
 
 /* Appends the latest entry of a live engine to a journal. */
@@ -126,7 +148,7 @@ static bool certifies(void)
 int main(void)
 {
     FILE *journal = tmpfile();
-    bool is_well = journal && drives() && lives(journal) && certifies();
+    bool is_well = journal && drives() && lives(journal) && waits() && certifies();
     if (journal)
         fclose(journal);
     return !is_well;

@@ -407,6 +407,8 @@ struct ticket {
     struct list in_list;
     struct account *account; /* the sender's, also once it has ended */
     uint64_t step;           /* the place in the history of the step that sends the parcel */
+    hullpippin_fixup *fixups; /* what is to be put right where the parcel lands */
+    size_t fixup_count;
     uint32_t count;
     int fds[];
 };
@@ -421,7 +423,7 @@ void tickets_begin(struct tickets *tickets);
 void tickets_end(struct tickets *tickets);
 /* A ticket for a parcel of the engine's next step. It takes the descriptors over; NULL where there is no memory, or they are over the
    sender's share. */
-struct ticket *ticket_new(struct process *process, const int *fds, uint32_t count);
+struct ticket *ticket_new(struct process *process, const int *fds, uint32_t count, const hullpippin_fixup *fixups, size_t fixup_count);
 /* Closes the descriptors. Nothing may be given to it. */
 void ticket_free(struct ticket *ticket);
 /* Keeps a ticket whose step was made, until its parcel is read or has ended. */

@@ -23,77 +23,26 @@ static bool unwrap(struct engine *engine, struct objects *objects, struct traile
     return true;
 }
 
-/* A parcel that has come to its receiver's window and whose descriptors are still to land. */
-struct arrival {
-    struct objects objects;
-    struct landing *landing; /* NULL: it has no descriptors, or there was no memory, and they are closed */
-    uint64_t place;          /* of the parcel in the window */
-    uint64_t base;           /* where the client sees the window */
-};
-
-/* Where the client sees these bytes of the parcel. */
-static uint64_t address_of(const struct arrival *arrival, const uint8_t *bytes)
+/* Puts so many of the next descriptors on the landing, which lie at a place of the window. */
+static void land(struct landing *landing, uint64_t place, uint64_t count, bool is_wide)
 {
-    return arrival->base + arrival->place + (uint64_t)(bytes - arrival->objects.bytes);
-}
-
-/* Puts the next descriptor on the landing. Until the client has told its number there, none is there. */
-static void land(struct arrival *arrival, uint8_t *bytes, bool is_wide)
-{
-    struct landing *landing = arrival->landing;
-    uint64_t none = is_wide ? UINT32_MAX : UINT64_MAX; /* as a number of 32 bits: -1 */
-    memcpy(bytes, &none, is_wide ? sizeof(uint64_t) : sizeof(uint32_t));
-    if (!landing || landing->count == landing->ticket->count)
-        return;
-    landing->is_wide[landing->count] = is_wide;
-    landing->places[landing->count++] = arrival->place + (uint64_t)(bytes - arrival->objects.bytes);
-}
-
-/* The object points at its buffer, and so does the place in its parent. */
-static void point(struct arrival *arrival, uint64_t offset, uint64_t index)
-{
-    struct objects *objects = &arrival->objects;
-    struct binder_buffer_object object, parent;
-    memcpy(&object, objects->bytes + offset, sizeof object);
-    object.buffer = address_of(arrival, objects_extra(objects) + object.buffer);
-    memcpy(objects->bytes + offset, &object, sizeof object);
-    if (object.flags & BINDER_BUFFER_FLAG_HAS_PARENT && objects_buffer(objects, object.parent, index, &parent)) {
-        uint64_t place = parent.buffer - address_of(arrival, objects->bytes) + object.parent_offset;
-        memcpy(objects->bytes + place, &object.buffer, sizeof object.buffer);
+    for (uint64_t i = 0; i < count && landing->count < landing->ticket->count; i++) {
+        landing->is_wide[landing->count] = is_wide;
+        landing->places[landing->count++] = place + i * sizeof(uint32_t);
     }
 }
 
-static void land_array(struct arrival *arrival, uint64_t offset, uint64_t index)
+/* Puts right what the library has said as the parcel was sent: pointers lead to where the client sees the buffers, and until it has told
+   its number there, no descriptor is where one is to be. The landing is NULL where there is no memory for it. */
+static void put_right(const struct ticket *ticket, struct landing *landing, uint8_t *parcel, size_t size, uint64_t place, uint64_t base)
 {
-    struct objects *objects = &arrival->objects;
-    struct binder_fd_array_object object;
-    struct binder_buffer_object parent;
-    memcpy(&object, objects->bytes + offset, sizeof object);
-    if (!objects_buffer(objects, object.parent, index, &parent))
-        return;
-    uint64_t place = parent.buffer - address_of(arrival, objects->bytes) + object.parent_offset;
-    for (uint64_t i = 0; i < object.num_fds; i++)
-        land(arrival, objects->bytes + place + i * sizeof(uint32_t), false);
-}
-
-static void put_right(struct arrival *arrival)
-{
-    struct objects *objects = &arrival->objects;
-    for (uint64_t i = 0; i < objects->offsets_size / 8; i++) {
-        uint64_t offset = objects_offset(objects, i);
-        switch (objects_type(objects, offset)) {
-        case BINDER_TYPE_PTR:
-            point(arrival, offset, i);
-            break;
-        case BINDER_TYPE_FD:
-            land(arrival, objects->bytes + offset + offsetof(struct binder_fd_object, fd), true);
-            break;
-        case BINDER_TYPE_FDA:
-            land_array(arrival, offset, i);
-            break;
-        default:
-            break;
-        }
+    for (const hullpippin_fixup *fixup = ticket->fixups; fixup < ticket->fixups + ticket->fixup_count; fixup++) {
+        if (!hullpippin_put_fixup(fixup, parcel, size, base + place) || !landing)
+            continue;
+        if (fixup->kind == HULLPIPPIN_FIXUP_DESCRIPTOR)
+            land(landing, place + fixup->at, 1, true);
+        else if (fixup->kind == HULLPIPPIN_FIXUP_DESCRIPTORS)
+            land(landing, place + fixup->at, fixup->to, false);
     }
 }
 
@@ -114,20 +63,20 @@ static void deliver_wrapped(struct thread *thread, struct binder_transaction_dat
 {
     struct engine *engine = thread->process->engine;
     struct window *window = &thread->process->window;
+    const size_t size = engine->answer.data - sizeof *trailer;
     struct ticket *ticket = ticket_take(&engine->tickets, (uint64_t)trailer->step_high << 32 | trailer->step);
-    struct arrival arrival = {.objects = *objects, .place = place, .base = window->base};
+    struct landing *landing = ticket && ticket->count ? thread_landing(thread) : NULL;
     record->sender_euid = trailer->euid;
-    if (ticket && ticket->count)
-        arrival.landing = thread_landing(thread);
-    if (arrival.landing)
-        *arrival.landing = (struct landing){.ticket = ticket, .parcel = record->data.ptr.buffer};
-    else
+    if (landing)
+        *landing = (struct landing){.ticket = ticket, .parcel = record->data.ptr.buffer};
+    if (ticket)
+        put_right(ticket, landing, objects->bytes, size, place, window->base);
+    if (!landing)
         ticket_free(ticket);
-    put_right(&arrival);
-    memcpy(window->at + place, objects->bytes, engine->answer.data - sizeof *trailer);
+    memcpy(window->at + place, objects->bytes, size);
     record->data_size = trailer->data_size;
     record->offsets_size = trailer->offsets_size;
-    record->data.ptr.offsets = address_of(&arrival, objects_offsets(objects));
+    record->data.ptr.offsets = record->data.ptr.buffer + round8(trailer->data_size);
 }
 
 void parcel_deliver(struct thread *thread, struct binder_transaction_data *record)

@@ -29,29 +29,6 @@ uint32_t objects_type(const struct objects *objects, uint64_t offset)
     return type;
 }
 
-uint64_t object_size(uint32_t type)
-{
-    switch (type) {
-    case BINDER_TYPE_PTR:
-        return sizeof(struct binder_buffer_object);
-    case BINDER_TYPE_FDA:
-        return sizeof(struct binder_fd_array_object);
-    default:
-        return sizeof(struct flat_binder_object);
-    }
-}
-
-bool objects_buffer(const struct objects *objects, uint64_t index, uint64_t before, struct binder_buffer_object *buffer)
-{
-    if (index >= before)
-        return false;
-    uint64_t offset = objects_offset(objects, index);
-    if (objects_type(objects, offset) != BINDER_TYPE_PTR || objects->data_size - offset < sizeof *buffer)
-        return false;
-    memcpy(buffer, objects->bytes + offset, sizeof *buffer);
-    return true;
-}
-
 /*
  * The engine changes the objects that it knows, and nothing else of the data. So what lies behind the last of these is
  * as it was sent, and no receiver's cookie can make a trailer of it.

@@ -26,17 +26,15 @@ struct trailer {
 
 #define PARCEL_ROOM (PAGE_AREA + sizeof(struct trailer))
 
-/* A buffer into which pointers and descriptors may still be put: the last one, and those that it hangs on, outermost first. */
-struct open_buffer {
-    uint64_t index, length;
-    uint64_t least; /* behind all that was put there */
-};
+/* An object has two at most: its buffer's address stands in itself and in its parent. */
+#define FIXUPS_MAX (2 * OBJECTS_MAX)
 
 /* An engine's memory for looking at a parcel: one at a time. */
 struct workbench {
     _Alignas(8) uint8_t bytes[PARCEL_ROOM];
-    uint64_t known[KNOWN_MAX]; /* offsets of the objects that the engine knows */
-    struct open_buffer open[OBJECTS_MAX];
+    _Alignas(8) uint8_t laid[PARCEL_ROOM]; /* as its receiver is to get it */
+    uint64_t known[KNOWN_MAX];             /* offsets of the objects that the engine knows */
+    hullpippin_fixup fixups[FIXUPS_MAX];
 };
 
 struct objects {
@@ -50,10 +48,6 @@ uint8_t *objects_extra(const struct objects *objects);
 uint64_t objects_offset(const struct objects *objects, uint64_t index);
 /* The type of the object at an offset, 0 where no object fits. */
 uint32_t objects_type(const struct objects *objects, uint64_t offset);
-/* How many bytes an object of this type takes. */
-uint64_t object_size(uint32_t type);
-/* The PTR object with this index; false where there is none below `before`. */
-bool objects_buffer(const struct objects *objects, uint64_t index, uint64_t before, struct binder_buffer_object *buffer);
 /* Tells the trailer of data, as the engine has it, with the offsets of its objects; false where it has none. */
 bool objects_trailer(const uint8_t *data, uint64_t size, const uint8_t *offsets, uint64_t offsets_size, struct trailer *trailer);
 

@@ -34,6 +34,7 @@ bool sent_all_begin(struct sent_all *all)
 struct sent *sent_new(struct process *process, const struct parcel *parcel)
 {
     uint64_t bytes = parcel->data_size + parcel->offsets_size, objects = parcel->offsets_size / sizeof(binder_size_t);
+    bytes += parcel->ticket ? parcel->ticket->fixup_count * sizeof *parcel->ticket->fixups : 0;
     uint32_t pieces = (uint32_t)(1 + objects + bytes / PIECE);
     struct sent *sent = malloc(sizeof *sent);
     if (!sent || !account_take(process->account, SHARED_CALLS, pieces)) {

@@ -1,8 +1,8 @@
 /* SPDX-License-Identifier: Apache-2.0 OR MIT */
 /*
- * tickets.c: what goes with a parcel beside the engine: its descriptors, until it is read. A ticket is named by the step
- * that sends the parcel, which the parcel's trailer tells who reads it. It ends when the parcel is read, or with its
- * buffer, of which the engine tells: so nothing stays here that nobody can fetch.
+ * tickets.c: what goes with a parcel beside the engine, until it is read: its descriptors, and what is to be put right where it lands. A
+ * ticket is named by the step that sends the parcel, which the parcel's trailer tells who reads it. It ends when the parcel is read, or
+ * with its buffer, of which the engine tells: so nothing stays here that nobody can fetch.
  *
  * A descriptor on its way counts in the share of who has sent it (shares.c), also when that one has ended. Where that is used up the
  * next parcel is refused, and nobody else notices.
@@ -23,13 +23,19 @@ static struct list *list_of(struct tickets *tickets, uint64_t step)
     return &tickets->lists[step % TICKET_LISTS];
 }
 
-struct ticket *ticket_new(struct process *process, const int *fds, uint32_t count)
+struct ticket *ticket_new(struct process *process, const int *fds, uint32_t count, const hullpippin_fixup *fixups, size_t fixup_count)
 {
     struct ticket *ticket = malloc(sizeof *ticket + count * sizeof *fds);
-    if (!ticket)
+    hullpippin_fixup *own = malloc(fixup_count * sizeof *fixups + !fixup_count);
+    if (!ticket || !own) {
+        free(ticket);
+        free(own);
         return NULL;
-    *ticket = (struct ticket){.account = account_keep(process->account), .step = hullpippin_live_len(&process->engine->live)};
+    }
+    *ticket = (struct ticket){.account = account_keep(process->account), .step = hullpippin_live_len(&process->engine->live),
+                              .fixups = own, .fixup_count = fixup_count};
     list_begin(&ticket->in_list);
+    memcpy(own, fixups, fixup_count * sizeof *fixups);
     if (!account_take(ticket->account, SHARED_DESCRIPTORS, count)) {
         log_event("process %d has its share of descriptors, and can't send %u more", process->pid, count);
         ticket_free(ticket);
@@ -49,6 +55,7 @@ void ticket_free(struct ticket *ticket)
     descriptors_close_for(before);
     account_give(ticket->account, SHARED_DESCRIPTORS, ticket->count);
     account_release(ticket->account);
+    free(ticket->fixups);
     free(ticket);
 }
 

@@ -1,15 +1,13 @@
 /* SPDX-License-Identifier: Apache-2.0 OR MIT */
 /*
  * parcels.c: puts the parcel of a transaction or reply into the page: data, offsets, and the buffers that its PTR
- * objects point at. In the copy pointers become places, and descriptors become indices of the packet that brings them
- * (protocol.h). The daemon judges what comes; here only that is seen to that nothing is read or written past an end.
+ * objects point at, one behind the other. Its descriptors go in the order of their objects (protocol.h). The daemon judges what comes;
+ * here only that is seen to that nothing is read or written past an end, and that nothing goes of a parcel of which a buffer can't be read or
+ * a descriptor isn't open.
  */
 #include "preload.h"
 
 #include <string.h>
-
-/* No descriptor of the packet: the daemon refuses the parcel. */
-#define NO_DESCRIPTOR UINT32_MAX
 
 /* The copy of a parcel. */
 struct copy {
@@ -19,6 +17,7 @@ struct copy {
     uint8_t *extra;
     uint64_t data_size, count, extra_size;
     uint64_t used; /* of the buffers' room */
+    bool is_bad;   /* something of it can't be had */
 };
 
 /* The object with this index, of this size; NULL where there is none. */
@@ -38,21 +37,21 @@ static uint32_t type_of(const uint8_t *object)
     return type;
 }
 
-/* The index that a descriptor has in the packet. */
-static uint32_t add_descriptor(struct packing *packing, int fd)
+/* The next one of the packet. */
+static void add_descriptor(struct copy *copy, int fd)
 {
+    struct packing *packing = copy->packing;
     if (packing->fd_count == DESCRIPTORS_MAX || real()->fcntl(fd, F_GETFD) < 0)
-        return NO_DESCRIPTOR;
-    packing->fds[packing->fd_count] = fd;
-    return packing->fd_count++;
+        copy->is_bad = true;
+    else
+        packing->fds[packing->fd_count++] = fd;
 }
 
-static void pack_descriptor(struct copy *copy, uint8_t *at)
+static void pack_descriptor(struct copy *copy, const uint8_t *at)
 {
     struct binder_fd_object object;
     memcpy(&object, at, sizeof object);
-    object.fd = add_descriptor(copy->packing, (int)object.fd);
-    memcpy(at, &object, sizeof object);
+    add_descriptor(copy, (int)object.fd);
 }
 
 /* Copies bytes of the program, and zeros up to a multiple of 8: what the page had there before is of another parcel, and goes to nobody. */
@@ -63,13 +62,13 @@ static void put_part(uint8_t *to, uint64_t from, uint64_t size)
     memset(to + size, 0, round8(size) - size);
 }
 
-/* A buffer that doesn't fit, or isn't there, is left where it is: that is no place, and the daemon refuses the parcel. */
+/* A buffer follows the one before. */
 static void pack_buffer(struct copy *copy, uint8_t *at)
 {
     struct binder_buffer_object object;
     memcpy(&object, at, sizeof object);
     if (object.length > copy->extra_size - copy->used || !memory_can_be_read((const void *)(uintptr_t)object.buffer, object.length)) {
-        object.buffer = PAGE_NOWHERE;
+        copy->is_bad = true;
     } else {
         put_part(copy->extra + copy->used, object.buffer, object.length);
         object.buffer = copy->used;
@@ -93,12 +92,11 @@ static void pack_array(struct copy *copy, const uint8_t *at)
     if (parent.buffer > copy->used || parent.length > copy->extra_size - parent.buffer || object.num_fds > DESCRIPTORS_MAX
         || object.parent_offset > parent.length || object.num_fds * sizeof(uint32_t) > parent.length - object.parent_offset)
         return;
-    uint8_t *number = copy->extra + parent.buffer + object.parent_offset;
+    const uint8_t *number = copy->extra + parent.buffer + object.parent_offset;
     for (uint64_t i = 0; i < object.num_fds; i++, number += sizeof(uint32_t)) {
         uint32_t fd;
         memcpy(&fd, number, sizeof fd);
-        fd = add_descriptor(copy->packing, (int)fd);
-        memcpy(number, &fd, sizeof fd);
+        add_descriptor(copy, (int)fd);
     }
 }
 
@@ -116,6 +114,12 @@ static void pack_objects(struct copy *copy)
     }
 }
 
+/* It is told without its bytes, and refused. */
+static void lose(struct binder_transaction_data *data)
+{
+    data->data.ptr.buffer = data->data.ptr.offsets = PAGE_NOWHERE;
+}
+
 /* Copies the parcel to the page's area, behind what is there. */
 static void copy_parcel(struct packing *packing, struct binder_transaction_data_sg *record)
 {
@@ -128,7 +132,13 @@ static void copy_parcel(struct packing *packing, struct binder_transaction_data_
     copy.extra = offsets + round8(data->offsets_size);
     put_part(copy.data, data->data.ptr.buffer, data->data_size);
     put_part(offsets, data->data.ptr.offsets, data->offsets_size);
+    const uint32_t fds_before = packing->fd_count;
     pack_objects(&copy);
+    if (copy.is_bad) {
+        packing->fd_count = fds_before;
+        lose(data);
+        return;
+    }
     memset(copy.extra + copy.used, 0, round8(copy.extra_size) - copy.used);
     data->data.ptr.buffer = packing->area_size;
     data->data.ptr.offsets = packing->area_size + round8(data->data_size);
@@ -146,8 +156,8 @@ bool parcel_pack(struct packing *packing, struct binder_transaction_data_sg *rec
     struct binder_transaction_data *data = &record->transaction_data;
     bool is_small = data->data_size <= PAGE_AREA && data->offsets_size <= PAGE_AREA && record->buffers_size <= PAGE_AREA;
     uint64_t size = is_small ? round8(data->data_size) + round8(data->offsets_size) + round8(record->buffers_size) : UINT64_MAX;
-    if (size > PAGE_AREA || !is_there(data)) { /* no window has room for it, or nobody has it: it is told without its bytes, and refused */
-        data->data.ptr.buffer = data->data.ptr.offsets = PAGE_NOWHERE;
+    if (size > PAGE_AREA || !is_there(data)) { /* no window has room for it, or nobody has it */
+        lose(data);
         return true;
     }
     /* One packet of descriptors goes with a stream: a further parcel that may have some waits for the next. */

@@ -13,8 +13,8 @@ use Rattle.bd_c.specs.Lives.{Rests}
 use Rattle.bd_c.specs.LiveCommands.{IsCommandOf}
 
 -- no step was made, and nothing else
-pub rests : (x : OwnedLive) (told : Told) → Rests x x told told
-rests x told = record {
+pub rests : (x : OwnedLive) (seat : ℕ) (told : Told) → Rests x x seat told told
+rests x seat told = record {
   kept = refl;
   seats = refl;
   follows = λ h follows. follows;
@@ -22,19 +22,21 @@ rests x told = record {
   ended = refl;
   notes = record { noted = refl; changed = refl };
   lists = record { reached = refl; whole = refl };
-  recalls = λ before k. k;
+  recalls = λ _ before k. k;
+  waits = refl;
+  watches = λ _ h w. w;
 }
 
 -- ---- whether there is a place for one more step, by how many there were
 
 abbrev Counts : OwnedLive → ℕ → Type 0
-Counts x n = (h : History) → Follows x.live h → n ≡ length h.entries
+Counts x n = (h : History) → Follows x.bridge.engine.live h → n ≡ length h.entries
 
-pub full : (x : OwnedLive) (n seat : ℕ) (z : Step) → Counts x n → n ≡ 18446744073709551615 → (h : History) → Follows x.live h → is_at_end h seat (Some z) ≡ true
+pub full : (x : OwnedLive) (n seat : ℕ) (z : Step) → Counts x n → n ≡ 18446744073709551615 → (h : History) → Follows x.bridge.engine.live h → is_at_end h seat (Some z) ≡ true
 unfolding is_at_end
 full x n seat z counts is h follows = search (arith, counts)
 
-pub has_place : (x : OwnedLive) (n : ℕ) → Counts x n → (n ≡ 18446744073709551615 → ⊥) → (h : History) → Follows x.live h → HasLivePlace h
+pub has_place : (x : OwnedLive) (n : ℕ) → Counts x n → (n ≡ 18446744073709551615 → ⊥) → (h : History) → Follows x.bridge.engine.live h → HasLivePlace h
 has_place x n counts not h follows = let at = counts h follows in omega (arith, at, follows.lawful.short, not)
 
 -- ---- bytes that are no command

@@ -11,5 +11,7 @@ pub mod GivenAgain
 pub mod Walking
 pub mod Ahead
 pub mod Looking
+pub mod Laying
+pub mod Settling
 pub mod Certifying
 pub mod Judged

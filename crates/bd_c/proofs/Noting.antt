@@ -19,7 +19,7 @@ resized_same (suc n) m (b ∷ bs) zero lt = refl
 resized_same (suc n) m (b ∷ bs) (suc k) lt = resized_same n m bs k (omega (arith, lt))
 
 -- seats that were noted in such a list
-pub polled : (h : History) (x y : OwnedLive) (seats : List ℕ) (mid new : List Bool) (changed : List ℕ) (m : ℕ) → mid ≡ take x.live.seats x.noted.items ++ replicate m false → x.live.seats ≡ length mid
+pub polled : (h : History) (x y : OwnedLive) (seats : List ℕ) (mid new : List Bool) (changed : List ℕ) (m : ℕ) → mid ≡ take x.bridge.engine.live.seats x.noted.items ++ replicate m false → x.bridge.engine.live.seats ≡ length mid
     → y.noted.items ≡ new → y.changed.items ≡ changed
     → ((seat : ℕ) → seat < length mid → get_or new seat false ≡ cond (has_seat seats seat) (is_ready (space_after h) seat) (get_or mid seat false))
     → ((seat : ℕ) → seat < length mid → has_seat changed seat ≡ flipped (get_or mid seat false) (get_or new seat false))
@@ -30,9 +30,9 @@ polled h x y seats mid new changed m is all new_is changed_is seen listed once i
       ap (λ ss. has_seat ss seat) changed_is ∙ listed seat (omega (arith, lt, all)) ∙ ap (λ b. flipped b (get_or new seat false)) (same seat lt)
       ∙ ap (λ bs. flipped (get_or x.noted.items seat false) (get_or bs seat false)) (sym new_is);
   once = λ seat lt. subst (λ ss. count_by (λ v. v == seat) ss ≤ 1) (sym changed_is) (once seat (omega (arith, lt, all)));
-  inside = subst (λ ss. All (λ v. v < x.live.seats) ss) (sym changed_is)
+  inside = subst (λ ss. All (λ v. v < x.bridge.engine.live.seats) ss) (sym changed_is)
       (subst (λ n. All (λ v. v < n) changed) (sym all) inside);
 }
   where
-    same : (seat : ℕ) → seat < x.live.seats → get_or mid seat false ≡ get_or x.noted.items seat false
-    same seat lt = ap (λ bs. get_or bs seat false) is ∙ resized_same x.live.seats m x.noted.items seat lt
+    same : (seat : ℕ) → seat < x.bridge.engine.live.seats → get_or mid seat false ≡ get_or x.noted.items seat false
+    same seat lt = ap (λ bs. get_or bs seat false) is ∙ resized_same x.bridge.engine.live.seats m x.noted.items seat lt

@@ -15,6 +15,8 @@ pub mod Requests
 pub mod Pages
 pub mod Serving
 pub mod Lives
+pub mod Bridges
+pub mod Layouts
 pub mod LiveCommands
 pub mod Flags
 pub mod LiveEntries

@@ -14,7 +14,7 @@ is_noted x seat = get_or x.noted.items seat false
 
 -- nothing but the notes differs
 pub record OnlyNotes (x y : OwnedLive) : Type 0 where
-  pub live : y.live ≡ x.live
+  pub bridge : y.bridge ≡ x.bridge
   pub latest : y.latest ≡ x.latest
   pub ended : y.ended.items ≡ x.ended.items
   pub lists : KeepsLists x y
@@ -22,14 +22,14 @@ pub record OnlyNotes (x y : OwnedLive) : Type 0 where
 -- after this history each of these seats is noted as it is, and every other as before; exactly those are listed that changed by
 -- it, each once
 pub record AreNoted (h : History) (x y : OwnedLive) (seats : List ℕ) : Type 0 where
-  pub noted : (seat : ℕ) → seat < x.live.seats → is_noted y seat ≡ (if has_seat seats seat then is_ready (space_after h) seat else is_noted x seat)
-  pub changed : (seat : ℕ) → seat < x.live.seats → has_seat y.changed.items seat ≡ flipped (is_noted x seat) (is_noted y seat)
-  pub once : (seat : ℕ) → seat < x.live.seats → count_by (λ v. v == seat) y.changed.items ≤ 1
-  pub inside : All (λ seat. seat < x.live.seats) y.changed.items
+  pub noted : (seat : ℕ) → seat < x.bridge.engine.live.seats → is_noted y seat ≡ (if has_seat seats seat then is_ready (space_after h) seat else is_noted x seat)
+  pub changed : (seat : ℕ) → seat < x.bridge.engine.live.seats → has_seat y.changed.items seat ≡ flipped (is_noted x seat) (is_noted y seat)
+  pub once : (seat : ℕ) → seat < x.bridge.engine.live.seats → count_by (λ v. v == seat) y.changed.items ≤ 1
+  pub inside : All (λ seat. seat < x.bridge.engine.live.seats) y.changed.items
 
 pub record HasPolled (x y : OwnedLive) (seats : List ℕ) (count : ℕ) : Type 0 where
   pub only : OnlyNotes x y
-  pub noted : (h : History) → Follows x.live h → AreNoted h x y seats
+  pub noted : (h : History) → Follows x.bridge.engine.live h → AreNoted h x y seats
   pub count_is : count ≡ length y.changed.items
 
 -- these seats were looked at, and it is told how many changed; or there was no memory, and all is as it was

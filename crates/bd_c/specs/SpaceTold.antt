@@ -1,5 +1,5 @@
 -- What C is told of a space.
-use Rattle.std.specs.Prelude.{◌≡◌, ℕ, Bool, true, false, List, length, Option, Some, None, is_some}
+use Rattle.std.specs.Prelude.{◌≡◌, ℕ, Bool, true, false, length, Option, Some, None, is_some}
 use Rattle.bd_space.specs.Histories.{History, space_after}
 use Rattle.bd_space.specs.declared.step.Identity.{Identity}
 use Rattle.bd_space.specs.declared.space.Process.{Process}
@@ -101,4 +101,4 @@ FindsBy Is old new false = Is None × (new ≡ old)
 
 -- P holds of the space after each history that the engine follows.
 abbrev pub InSpace : OwnedLive → (Space → Type 0) → Type 0
-InSpace x P = (h : History) → Follows x.live h → P (space_after h)
+InSpace x P = (h : History) → Follows x.bridge.engine.live h → P (space_after h)

@@ -37,8 +37,8 @@ impl Told {
     ghost use Rattle.std.specs.Prelude.{◌≡◌};
     ghost use Rattle.bd_c.specs.Told.{told_of, placed, got_of, refused_of, done_of, told_of_step};
 
-    // What is told of an answer of this kind, with the places of its steps and nothing else yet.
-    fn placed(kind: u32, from: u64, to: u64) -> Told
+    /// What is told of an answer of this kind, with the places of its steps and nothing else yet.
+    pub(crate) fn placed(kind: u32, from: u64, to: u64) -> Told
         ensures { result ≡ placed kind from to }
     {
         Told {

@@ -6,6 +6,8 @@
 
 mod answers;
 mod asking;
+mod bridge_calls;
+mod bridges;
 mod certificates;
 mod codec_calls;
 mod driver_calls;
@@ -17,6 +19,8 @@ mod hosting;
 mod hosts;
 mod judging;
 mod keyed;
+mod layout_calls;
+mod layouts;
 mod lending;
 mod live;
 mod live_calls;

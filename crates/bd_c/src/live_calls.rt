@@ -20,13 +20,13 @@ use std::alloc::Global;
 #[tactic(auto, using(crate::proofs::Behind::none_there))]
 #[unsafe(no_mangle)]
 pub extern "C" fn hullpippin_live_new(alloc: Global, seats: u32, live: &mut Handle) -> u32
-    ensures begins { live.old.held ≡ None → Reports result (LiveOpensAt (history_of seats []) live.new.held) }
+    ensures begins { live.old.held ≡ None → Reports result (LiveOpensAt (history_of seats []) 0 live.new.held) }
     ensures misuse { IsThere live.old.held → IsMisuse result live.old.held live.new.held }
 {
     if live.is_there() {
         return Status::Misuse.number();
     }
-    put_made(live, open_live(alloc, seats))
+    put_made(live, open_live(alloc, seats, 0))
 }
 
 /// Makes one that is as after so many refused steps, for tests of what is far behind the first: hullpippin.h hasn't got it.
@@ -38,7 +38,7 @@ pub extern "C" fn hullpippin_live_begun_at(
     steps: u64,
     live: &mut Handle,
 ) -> u32
-    ensures begins { live.old.held ≡ None → Reports result (LiveOpensAt (refusals seats steps) live.new.held) }
+    ensures begins { live.old.held ≡ None → Reports result (LiveOpensAt (refusals seats steps) 0 live.new.held) }
     ensures misuse { IsThere live.old.held → IsMisuse result live.old.held live.new.held }
 {
     if live.is_there() {

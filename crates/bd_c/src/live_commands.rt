@@ -69,10 +69,10 @@ impl OwnedLive {
     ) -> Status
         ensures { Steps self.old self.new seat (step_given command bytes.now offsets.now) result told.old told.new }
     {
-        if seat >= self.live.seats() {
+        if seat >= self.bridge.engine.live.seats() {
             return Status::NoSuchSeat;
         }
-        if self.live.len() == u64::MAX {
+        if self.bridge.engine.live.len() == u64::MAX {
             return Status::HistoryFull;
         }
         match parcel_for(alloc, &command, bytes, offsets) {

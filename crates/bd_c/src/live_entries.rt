@@ -34,14 +34,14 @@ pub(crate) fn got_of(latest: &Option<Entry>, part: u32) -> &[u8]
 impl OwnedLive {
     /// Spells the latest entry into the memory given, if all of it fits there.
     pub(crate) fn entry(&self, out: &mut [u8], size: &mut usize) -> Status
-        ensures { Tells (IsSpelled self.now.live.seats self.now.latest) (spelled self.now.latest)
+        ensures { Tells (IsSpelled self.now.bridge.engine.live.seats self.now.latest) (spelled self.now.latest)
             out.old out.new size.old size.new result }
     {
         let Some(latest) = &self.latest else {
             *size = 0;
             return Status::Done;
         };
-        match lay_entry(self.live.seats(), latest, out) {
+        match lay_entry(self.bridge.engine.live.seats(), latest, out) {
             Some(len) => {
                 *size = len;
                 Status::Done
@@ -58,11 +58,15 @@ impl OwnedLive {
         out: &mut [u8],
         size: &mut usize,
     ) -> Status
-        ensures { Tells (IsHeading self.now.live.seats count) (heading_bytes self.now.live.seats count)
+        ensures { Tells (IsHeading self.now.bridge.engine.live.seats count) (heading_bytes self.now.bridge.engine.live.seats count)
             out.old out.new size.old size.new result }
     {
         let mut heading: SmallVec<u8, SHORT, Global> = SmallVec::new(alloc);
-        let written = write_heading(self.live.seats(), count as usize, &mut heading);
+        let written = write_heading(
+            self.bridge.engine.live.seats(),
+            count as usize,
+            &mut heading,
+        );
         tell_written(written, heading.as_slice(), out, size)
     }
 }

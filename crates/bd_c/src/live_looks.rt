@@ -18,12 +18,12 @@ use std::alloc::Global;
 #[unsafe(no_mangle)]
 pub extern "C" fn hullpippin_live_ready(live: &mut Handle, seat: u32) -> bool
     ensures same { live.new.held ≡ live.old.held }
-    ensures ready { IsLive live.old.held → Of live_of live.old.held (λ x. (h : History) → Follows x.live h
+    ensures ready { IsLive live.old.held → Of live_of live.old.held (λ x. (h : History) → Follows x.bridge.engine.live h
         → result ≡ is_ready (space_after h) seat) }
     ensures misuse { (IsLive live.old.held → ⊥) → result ≡ false }
 {
     match live.engine() {
-        Some(engine) => engine.live.is_ready(seat),
+        Some(engine) => engine.bridge.engine.live.is_ready(seat),
         None => false,
     }
 }
@@ -32,12 +32,12 @@ pub extern "C" fn hullpippin_live_ready(live: &mut Handle, seat: u32) -> bool
 #[unsafe(no_mangle)]
 pub extern "C" fn hullpippin_live_len(live: &mut Handle) -> u64
     ensures same { live.new.held ≡ live.old.held }
-    ensures len { IsLive live.old.held → Of live_of live.old.held (λ x. (h : History) → Follows x.live h
+    ensures len { IsLive live.old.held → Of live_of live.old.held (λ x. (h : History) → Follows x.bridge.engine.live h
         → result ≡ length h.entries) }
     ensures misuse { (IsLive live.old.held → ⊥) → result ≡ 0 }
 {
     match live.engine() {
-        Some(engine) => engine.live.len(),
+        Some(engine) => engine.bridge.engine.live.len(),
         None => 0,
     }
 }
@@ -62,7 +62,7 @@ pub extern "C" fn hullpippin_live_bytes(live: &mut Handle, part: u32, out: &mut 
 pub extern "C" fn hullpippin_live_entry(live: &mut Handle, out: &mut [u8], size: &mut usize) -> u32
     ensures same { live.new.held ≡ live.old.held }
     ensures tells { IsLive live.old.held → Reports result (λ s. Of live_of live.old.held (λ x.
-        Tells (IsSpelled x.live.seats x.latest) (spelled x.latest) out.old out.new size.old size.new s)) }
+        Tells (IsSpelled x.bridge.engine.live.seats x.latest) (spelled x.latest) out.old out.new size.old size.new s)) }
     ensures misuse { (IsLive live.old.held → ⊥) → IsMisuse result live.old.held live.new.held
         × (out.new ≡ out.old) × (size.new ≡ size.old) }
 {
@@ -83,7 +83,7 @@ pub extern "C" fn hullpippin_live_heading(
 ) -> u32
     ensures same { live.new.held ≡ live.old.held }
     ensures tells { IsLive live.old.held → Reports result (λ s. Of live_of live.old.held (λ x.
-        Tells (IsHeading x.live.seats count) (heading_bytes x.live.seats count) out.old out.new size.old size.new s)) }
+        Tells (IsHeading x.bridge.engine.live.seats count) (heading_bytes x.bridge.engine.live.seats count) out.old out.new size.old size.new s)) }
     ensures misuse { (IsLive live.old.held → ⊥) → IsMisuse result live.old.held live.new.held
         × (out.new ≡ out.old) × (size.new ≡ size.old) }
 {

@@ -17,10 +17,15 @@ impl OwnedLive {
         let Ok(()) = self.spare.reserve(seats.len()) else {
             return Status::NoMemory;
         };
-        let Ok(()) = self.noted.resize(self.live.seats() as usize, false) else {
+        let Ok(()) = self
+            .noted
+            .resize(self.bridge.engine.live.seats() as usize, false)
+        else {
             return Status::NoMemory;
         };
-        self.live
+        self.bridge
+            .engine
+            .live
             .note_ready(seats, self.noted.as_mut_slice(), &mut self.spare);
         std::mem::swap(&mut self.changed, &mut self.spare);
         *changed = self.changed.len();

@@ -47,7 +47,7 @@ impl OwnedLive {
     fn ask_reached(&mut self, count: &mut usize) -> Status
         ensures { Asks self.old self.new result count.old count.new }
     {
-        match self.live.tell_reached(&mut self.spare_lists) {
+        match self.bridge.engine.live.tell_reached(&mut self.spare_lists) {
             Ok(whole) => {
                 std::mem::swap(&mut self.reached, &mut self.spare_lists);
                 self.whole = whole;

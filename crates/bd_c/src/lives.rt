@@ -10,18 +10,18 @@ use crate::opening::boxed;
 use crate::status::Status;
 use std::alloc::Global;
 
-/// A new live engine, in a box.
-pub(crate) fn open_live(alloc: Global, seats: u32) -> Result<Box<Held>, Status>
-    ensures ok { IfOk result (λ b. Of live_of (Some b.value) (Begins (history_of seats []))) }
+/// A new live engine, in a box, of so many of whose seats it is kept who waits.
+pub(crate) fn open_live(alloc: Global, seats: u32, waiting: u32) -> Result<Box<Held>, Status>
+    ensures ok { IfOk result (λ b. Of live_of (Some b.value) (Begins (history_of seats []) waiting)) }
     ensures refused { IfErr result (IsLiveRefusal seats) }
 {
-    let live = OwnedLive::new(alloc, seats)?;
+    let live = OwnedLive::new(alloc, seats, waiting)?;
     boxed(alloc, Held::Live(live))
 }
 
 /// One that is as after so many refused steps.
 pub(crate) fn open_live_at(alloc: Global, seats: u32, steps: u64) -> Result<Box<Held>, Status>
-    ensures ok { IfOk result (λ b. Of live_of (Some b.value) (Begins (refusals seats steps))) }
+    ensures ok { IfOk result (λ b. Of live_of (Some b.value) (Begins (refusals seats steps) 0)) }
     ensures refused { IfErr result (IsLiveRefusal seats) }
 {
     let live = OwnedLive::begun_at(alloc, seats, steps)?;

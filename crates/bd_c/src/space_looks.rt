@@ -30,7 +30,7 @@ impl OwnedLive {
     pub(crate) fn tell_process(&self, made: u64, told: &mut ProcessTold) -> bool
         ensures { InSpace self.now (λ s. Finds (option_map process_told (process_in s.processes made)) told.old told.new result) }
     {
-        match self.live.process(made) {
+        match self.bridge.engine.live.process(made) {
             Some(q) => {
                 *told = ProcessTold::of(q);
                 true
@@ -44,7 +44,7 @@ impl OwnedLive {
     pub(crate) fn tell_thread(&self, seat: u32, told: &mut ThreadTold) -> bool
         ensures { InSpace self.now (λ s. Finds (option_map thread_told (thread_in s.threads seat)) told.old told.new result) }
     {
-        match self.live.thread(seat) {
+        match self.bridge.engine.live.thread(seat) {
             Some(t) => {
                 *told = ThreadTold::of(t);
                 true
@@ -58,7 +58,7 @@ impl OwnedLive {
     pub(crate) fn tell_manager(&self, told: &mut IdTold) -> bool
         ensures { InSpace self.now (λ s. Finds (option_map id_told (s.manager)) told.old told.new result) }
     {
-        match self.live.manager() {
+        match self.bridge.engine.live.manager() {
             Some(id) => {
                 *told = IdTold::of(id);
                 true
@@ -72,7 +72,7 @@ impl OwnedLive {
     pub(crate) fn tell_object(&self, id: Identity, told: &mut ObjectTold) -> bool
         ensures { InSpace self.now (λ s. Finds (option_map object_told (object_in s.objects id)) told.old told.new result) }
     {
-        match self.live.object(id) {
+        match self.bridge.engine.live.object(id) {
             Some(x) => {
                 *told = ObjectTold::of(x);
                 true
@@ -86,7 +86,7 @@ impl OwnedLive {
     pub(crate) fn tell_named(&self, pid: u32, handle: u32, told: &mut IdTold) -> bool
         ensures { InSpace self.now (λ s. Finds (option_map id_told (named_by s pid handle)) told.old told.new result) }
     {
-        match self.live.named(pid, handle) {
+        match self.bridge.engine.live.named(pid, handle) {
             Some(id) => {
                 *told = IdTold::of(id);
                 true
@@ -100,7 +100,7 @@ impl OwnedLive {
     pub(crate) fn tell_buffer(&self, made: u64, told: &mut BufferTold) -> bool
         ensures { InSpace self.now (λ s. Finds (option_map buffer_told (buffer_in s.buffers made)) told.old told.new result) }
     {
-        match self.live.buffer(made) {
+        match self.bridge.engine.live.buffer(made) {
             Some(b) => {
                 *told = BufferTold::of(&b);
                 true
@@ -114,7 +114,7 @@ impl OwnedLive {
     pub(crate) fn tell_innermost(&self, seat: u32, told: &mut FrameTold) -> bool
         ensures { InSpace self.now (λ s. Finds (option_map frame_told (innermost_of s seat)) told.old told.new result) }
     {
-        match self.live.innermost(seat) {
+        match self.bridge.engine.live.innermost(seat) {
             Some((made, serves)) => {
                 *told = FrameTold { made, serves };
                 true
@@ -128,7 +128,7 @@ impl OwnedLive {
     pub(crate) fn tell_death(&self, made: u64, told: &mut DeathTold) -> bool
         ensures { InSpace self.now (λ s. Finds (option_map death_told (find (is_notification made) s.deaths)) told.old told.new result) }
     {
-        match self.live.death(made) {
+        match self.bridge.engine.live.death(made) {
             Some(d) => {
                 *told = DeathTold::of(d);
                 true
@@ -142,7 +142,7 @@ impl OwnedLive {
     pub(crate) fn tell_process_of_pid(&self, pid: u32, made: &mut u64) -> bool
         ensures { InSpace self.now (λ s. Finds (process_of_pid s pid) made.old made.new result) }
     {
-        match self.live.process_of_pid(pid) {
+        match self.bridge.engine.live.process_of_pid(pid) {
             Some(q) => {
                 *made = q;
                 true
@@ -156,7 +156,7 @@ impl OwnedLive {
     pub(crate) fn tell_carried(&self, made: u64, index: usize, told: &mut IdTold) -> bool
         ensures { InSpace self.now (λ s. Finds (option_map id_told (slice_get (carried s made) index)) told.old told.new result) }
     {
-        match carried_at(self.live.carried(made), index) {
+        match carried_at(self.bridge.engine.live.carried(made), index) {
             Some(id) => {
                 *told = IdTold::of(id);
                 true
@@ -170,7 +170,7 @@ impl OwnedLive {
     pub(crate) fn tell_unread(&self, list: TodoList, index: usize, told: &mut WorkTold) -> bool
         ensures { InSpace self.now (λ s. Finds (option_map work_told (slice_get (work_on s.todo (Some list)) index)) told.old told.new result) }
     {
-        match unread_at(self.live.unread(list), index) {
+        match unread_at(self.bridge.engine.live.unread(list), index) {
             Some(work) => {
                 *told = WorkTold::of(&work);
                 true
@@ -184,7 +184,7 @@ impl OwnedLive {
     pub(crate) fn tell_next_process(&self, from: u64, place: &mut u64) -> bool
         ensures { InSpace self.now (λ s. Finds (next_process s from) place.old place.new result) }
     {
-        match self.live.next_process(from) {
+        match self.bridge.engine.live.next_process(from) {
             Some(next) => {
                 *place = next;
                 true
@@ -197,7 +197,7 @@ impl OwnedLive {
     pub(crate) fn tell_next_handle(&self, pid: u32, from: u32, handle: &mut u32) -> bool
         ensures { InSpace self.now (λ s. FindsBy (IsNextHandle s pid from) handle.old handle.new result) }
     {
-        match self.live.next_handle(pid, from) {
+        match self.bridge.engine.live.next_handle(pid, from) {
             Some(next) => {
                 *handle = next;
                 true
@@ -211,7 +211,7 @@ impl OwnedLive {
     pub(crate) fn tell_next_buffer(&self, process: u64, from: u64, made: &mut u64) -> bool
         ensures { InSpace self.now (λ s. Finds (next_buffer s process from) made.old made.new result) }
     {
-        match self.live.next_buffer(process, from) {
+        match self.bridge.engine.live.next_buffer(process, from) {
             Some(next) => {
                 *made = next;
                 true

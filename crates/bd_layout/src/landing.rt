@@ -9,8 +9,8 @@ use bd_uapi::numbers::put_u64;
 // What stands for no descriptor: -1, in 32 bits.
 const NO_DESCRIPTOR: u64 = 0xffff_ffff;
 
-// Writes one fix-up.
-fn put(bytes: &mut [u8], fixup: Fixup, base: u64)
+/// Writes one fix-up into a parcel, as it comes from the engine: its receiver sees the first byte at `base`.
+pub fn put_fixup(bytes: &mut [u8], fixup: Fixup, base: u64)
     requires within { LiesWithin (length bytes.old) fixup }
     requires room { base + length bytes.old < 2 ^ 64 }
     ensures { bytes.new ≡ put_at base fixup bytes.old }
@@ -29,7 +29,7 @@ fn put_all(bytes: &mut [u8], fixups: &[Fixup], base: u64)
     ensures { bytes.new ≡ landed base fixups.now bytes.old }
 {
     for fixup in fixups {
-        put(bytes, *fixup, base);
+        put_fixup(bytes, *fixup, base);
     }
 }
 

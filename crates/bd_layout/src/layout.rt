@@ -20,7 +20,7 @@ pub struct Layout {
     pub(crate) taken: usize,
     pub(crate) writable: LinkedList<OpenBuffer>,
     pub(crate) fixups: Vec<Fixup>,
-    pub(crate) known: Vec<usize>,
+    pub(crate) known: Vec<u64>,
 }
 
 impl Model for Layout {

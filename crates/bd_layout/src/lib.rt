@@ -12,6 +12,7 @@ mod walk;
 
 pub use buffer::OpenBuffer;
 pub use fixup::Fixup;
+pub use landing::put_fixup;
 pub use laws::{
     layouts_carry_what_was_sent, layouts_have_a_place_for_each_descriptor, layouts_land_whole,
     linux_takes_the_same,

@@ -74,7 +74,7 @@ impl Layout {
             }
             _ => {
                 self.reach = at + 24;
-                self.known.push(at)?;
+                self.known.push(offset)?;
                 Ok(true)
             }
         }
@@ -97,7 +97,7 @@ impl Layout {
     }
 
     /// Where the objects lie that the engine knows.
-    pub fn known(&self) -> &[usize]
+    pub fn known(&self) -> &[u64]
         ensures { result.now ≡ self.now.known }
     {
         &self.known

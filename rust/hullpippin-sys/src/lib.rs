@@ -55,7 +55,8 @@ pub const HULLPIPPIN_DONE: u32 = 0;
 /// Malloc gave none for the call's own copies; it may be made again.
 pub const HULLPIPPIN_NO_MEMORY: u32 = 1;
 
-/// A request of this seat is handed over: collect or withdraw it first.
+/// A request of this seat is handed over: collect or withdraw it first; live_open, live_attach: the seat waits
+/// (hullpippin_bridge_wait).
 pub const HULLPIPPIN_WAITING: u32 = 2;
 
 /// No request of this seat is handed over.
@@ -64,8 +65,8 @@ pub const HULLPIPPIN_NOT_WAITING: u32 = 3;
 /// Serve: another seat has the engine.
 pub const HULLPIPPIN_TAKEN: u32 = 4;
 
-/// Post: there is no such kind of request; post, set_spam, live_set_spam: `on` is neither 0 nor 1; again: none came
-/// back.
+/// Post: there is no such kind of request; post, set_spam, live_set_spam: `on` is neither 0 nor 1; bridge_wait: nor is
+/// `defers`; again: none came back.
 pub const HULLPIPPIN_NO_SUCH_REQUEST: u32 = 5;
 
 /// New: the number of seats isn't 1 to 31; live_new: 1 to 65536.
@@ -432,6 +433,36 @@ pub const HULLPIPPIN_LIST_OF_PROCESS: u32 = 1;
 
 /// Any list at all: the engine doesn't know which ones.
 pub const HULLPIPPIN_ANY_LIST: u32 = 2;
+
+/// Nobody who was looked at is to be told anything.
+pub const HULLPIPPIN_SIGNAL_NONE: u32 = 0;
+
+/// This was read for a thread that waits in a read.
+pub const HULLPIPPIN_SIGNAL_READ: u32 = 1;
+
+/// A thread's doorbell is to ring, or to be silent.
+pub const HULLPIPPIN_SIGNAL_BELL: u32 = 2;
+
+/// What a thread that waits is told. What a field doesn't apply to has 0 there.
+#[repr(C)]
+#[derive(Clone, Copy, Debug, Default, PartialEq, Eq)]
+pub struct hullpippin_signal {
+    /// HULLPIPPIN_SIGNAL_NONE ..
+    pub kind: u32,
+    /// The thread's.
+    pub seat: u32,
+    /// Read: it is woken, and waits in a read no more: its read is answered with this, and with whatever was read for
+    /// it since it was woken last; else it waits on.
+    pub wakes: bool,
+    /// Bell: it rings from now on, and else is silent.
+    pub rings: bool,
+    /// Somebody is still to be looked at.
+    pub is_left: bool,
+    /// Read: what hullpippin_live_read would answer: DONE, NO_MEMORY, HISTORY_FULL.
+    pub status: u32,
+    /// Read, where that is DONE: as of hullpippin_live_read. It is the latest step.
+    pub answer: hullpippin_answer,
+}
 
 /// An object's identity.
 #[repr(C)]
@@ -813,6 +844,43 @@ pub struct hullpippin_walk {
     pub cause: u32,
 }
 
+/// What came of a parcel, and how much there is of it. Where it is refused all else is 0.
+#[repr(C)]
+#[derive(Clone, Copy, Debug, Default, PartialEq, Eq)]
+pub struct hullpippin_layout {
+    /// Linux's driver would refuse it for a PTR, FD or FDA object, or for where an object lies.
+    pub is_refused: bool,
+    /// Bytes that go on: the data, the offsets and the buffers, each up to a multiple of 8, with zeros.
+    pub size: usize,
+    /// Objects of other types.
+    pub known: usize,
+    /// What is to be written once the parcel has its place.
+    pub fixups: usize,
+    /// Descriptors that go on, in the order of their objects: the first ones.
+    pub taken: usize,
+}
+
+/// What is to be written into a parcel.
+#[repr(C)]
+#[derive(Clone, Copy, Debug, Default, PartialEq, Eq)]
+pub struct hullpippin_fixup {
+    /// HULLPIPPIN_FIXUP_POINTER ..
+    pub kind: u32,
+    /// Where it lies in the parcel.
+    pub at: u64,
+    /// Pointer: where it leads in the parcel; descriptors: how many they are; else 0.
+    pub to: u64,
+}
+
+/// The address of a buffer, 8 bytes.
+pub const HULLPIPPIN_FIXUP_POINTER: u32 = 1;
+
+/// The number of an FD object's descriptor, 8 bytes.
+pub const HULLPIPPIN_FIXUP_DESCRIPTOR: u32 = 2;
+
+/// Those of an FDA object's, 4 bytes each.
+pub const HULLPIPPIN_FIXUP_DESCRIPTORS: u32 = 3;
+
 extern "C" {
     /// The version of the library that you link, as HULLPIPPIN_VERSION has the header's.
     pub fn hullpippin_version() -> u32;
@@ -1078,6 +1146,37 @@ extern "C" {
     /// there are no more. They stay until its next call that is DONE. Takes no memory.
     pub fn hullpippin_live_reached(live: *mut hullpippin_live, index: usize, list: *mut hullpippin_todo_list) -> bool;
 
+    /// As hullpippin_live_new, but that of each seat it is kept how it waits: at first none does.
+    pub fn hullpippin_bridge_new(seats: u32, live: *mut hullpippin_live) -> u32;
+
+    /// The seat's thread waits in a read from now on, with room for `room` bytes, which is at least 72; where it waits
+    /// in one already, this one takes its place. Where `defers` is 1, and not 0, what it need not be told before the
+    /// reply to a call of its own may be read for it meanwhile, and it waits on: BR_TRANSACTION_COMPLETE, BR_INCREFS
+    /// and BR_ACQUIRE. That it is in a call, and serves none inside of that, is asked of the engine. Also NO_SUCH_SEAT,
+    /// where the engine is no bridge too; NO_MEMORY: then it waits as before; and NO_SUCH_REQUEST, where `defers` is
+    /// neither 0 nor 1.
+    pub fn hullpippin_bridge_wait(live: *mut hullpippin_live, seat: u32, room: u32, defers: u32) -> u32;
+
+    /// The seat's thread has a doorbell from now on, which is silent: it is told each time that it comes to have
+    /// something to read, or nothing any more. It may wait in a read as well. Also NO_SUCH_SEAT, and NO_MEMORY: then it
+    /// waits as before.
+    pub fn hullpippin_bridge_give_doorbell(live: *mut hullpippin_live, seat: u32) -> u32;
+
+    /// The seat's thread waits no more in a read, as where that was interrupted. Its doorbell stays. Does nothing where
+    /// it doesn't wait. Takes no memory. Also NO_SUCH_SEAT.
+    pub fn hullpippin_bridge_stop_reading(live: *mut hullpippin_live, seat: u32) -> u32;
+
+    /// The same of its doorbell too.
+    pub fn hullpippin_bridge_stop_waiting(live: *mut hullpippin_live, seat: u32) -> u32;
+
+    /// Looks at `looks` threads at most of those who wait and whom something has reached, who was named first at first,
+    /// until one of them is to be told something, and tells that. Each look at one that waits in a read, and has
+    /// something to read, makes a step: its read. Always DONE. It asks for no memory but for that step's.
+    pub fn hullpippin_bridge_settle(live: *mut hullpippin_live, looks: u32, signal: *mut hullpippin_signal) -> u32;
+
+    /// How many threads are still to be looked at, some perhaps twice. Takes no memory.
+    pub fn hullpippin_bridge_suspects(live: *mut hullpippin_live) -> usize;
+
     /// As hullpippin_answer_bytes, of the latest step; 0 where that isn't a read, or didn't get anything.
     pub fn hullpippin_live_bytes(live: *mut hullpippin_live, part: u32, out: *mut u8, room: usize) -> usize;
 
@@ -1212,4 +1311,31 @@ extern "C" {
     /// Writes an object over the 24 bytes from its `start` on. Answers 0, or the number of the cause by which a walk
     /// would refuse it there, X9 or X10, and then the data stays as it was.
     pub fn hullpippin_put_object(object: *const hullpippin_flat_object, data: *mut u8, data_size: usize) -> u32;
+
+    /// Lays out the parcel of a transaction or reply: its data, its offsets, the buffers as their sender has put them
+    /// one behind the other, each up to a multiple of 8, and how many descriptors came with it. Tells in `layout` how
+    /// much there is of what goes on, of the places of known objects, and of fix-ups; each of these is copied if all of
+    /// it fits, and else none of it. A PTR object's word of where its buffer lies, and the numbers of descriptors,
+    /// aren't looked at. Also NO_MEMORY, and NO_SUCH_REQUEST, where the buffers or descriptors are 4294967296 or more.
+    pub fn hullpippin_lay_out(
+        data: *const u8,
+        data_size: usize,
+        offsets: *const u8,
+        offsets_size: usize,
+        buffers: *const u8,
+        buffers_size: usize,
+        descriptors: usize,
+        out: *mut u8,
+        room: usize,
+        known: *mut u64,
+        known_room: usize,
+        fixups: *mut hullpippin_fixup,
+        fixups_room: usize,
+        layout: *mut hullpippin_layout,
+    ) -> u32;
+
+    /// Writes a fix-up into a parcel of `size` bytes, as it comes from the engine, whose receiver sees its first byte
+    /// at `base`: an address, or -1 for each descriptor. False where it is none, or doesn't lie within the parcel, and
+    /// then nothing is written.
+    pub fn hullpippin_put_fixup(fixup: *const hullpippin_fixup, parcel: *mut u8, size: usize, base: u64) -> bool;
 }

@@ -37,6 +37,7 @@
 #![warn(missing_docs, missing_debug_implementations, unreachable_pub, rust_2018_idioms)]
 
 mod answers;
+mod bridges;
 mod certificates;
 mod commands;
 mod driver;
@@ -48,6 +49,7 @@ mod space;
 mod status;
 
 pub use answers::{Answer, Outcome, Request, Stop, Why};
+pub use bridges::Signal;
 pub use certificates::{call_of_reply, chain_of, turns_of, Turn};
 pub use commands::{Command, TransactionData, ACCEPT_FDS, CLEAR_BUF, ONE_WAY, ROOT_OBJECT, STATUS_CODE, UPDATE_TXN};
 pub use driver::{verdict_on, Driver, History, Page, Seat, Verdict};

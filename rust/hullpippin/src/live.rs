@@ -41,10 +41,20 @@ pub struct Made {
 impl Live {
     /// A live engine for so many seats, 1 to 65536.
     pub fn new(seats: u32) -> Result<Live, Error> {
+        Live::begun(|live| unsafe { sys::hullpippin_live_new(seats, live) })
+    }
+
+    /// What a call makes of an empty handle.
+    pub(crate) fn begun(make: impl FnOnce(*mut sys::hullpippin_live) -> u32) -> Result<Live, Error> {
         let mut handle = sys::hullpippin_live::NONE;
         // SAFETY: the handle is empty.
-        checked(unsafe { sys::hullpippin_live_new(seats, &mut handle) })?;
+        checked(make(&mut handle))?;
         Ok(Live { handle })
+    }
+
+    /// What was read for somebody who waits, by the latest step.
+    pub(crate) fn read_for(&mut self, told: &sys::hullpippin_answer) -> Made {
+        Made { answer: self.told(told, Vec::new(), 0), place: told.from }
     }
 
     /// Makes a step of a command of so many bytes, or of none, and fetches what it answered.

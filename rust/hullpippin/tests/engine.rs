@@ -2,7 +2,7 @@
 //! Runs over the library: what this crate spells is what the engine reads, and the other way round.
 use hullpippin::{
     call_of_reply, chain_of, turns_of, verdict_on, Answer, Cause, Command, Driver, Error, Fault, FlatObject, Kept, Live, Note,
-    ObjectId, Outcome, Parcel, Request, Return, Stop, TodoList, TransactionData, Turn, Verdict, Why, Work, ONE_WAY,
+    ObjectId, Outcome, Parcel, Request, Return, Signal, Stop, TodoList, TransactionData, Turn, Verdict, Why, Work, ONE_WAY,
 };
 use hullpippin_sys as sys;
 
@@ -102,6 +102,38 @@ fn a_call_with_an_object_is_read_as_it_was_sent() {
         _ => None,
     });
     assert_eq!(reply, Some(3));
+}
+
+/// Of two threads of a process that wait each is woken for one of two calls, once.
+#[test]
+fn nobody_who_waits_is_forgotten() {
+    let mut live = Live::bridge(4).expect("a bridge");
+    for (seat, pid) in [(0, 100), (2, 200), (3, 300)] {
+        live.open(seat, pid, 1000, 65536).expect("a step");
+    }
+    live.manager(0).expect("a step");
+    live.attach(1, 100).expect("a step");
+    for seat in [0, 1] {
+        live.command(seat, &Command::EnterLooper).expect("a step");
+        live.wait(seat, 256, false).expect("it waits");
+    }
+    assert_eq!(live.settle(16), (None, false));
+    for seat in [2, 3] {
+        live.transact(seat, 0, 7, 0, &Parcel::new()).expect("a step");
+    }
+    let mut woken = Vec::new();
+    while let (Some(signal), _) = live.settle(16) {
+        let Signal::Read { seat, wakes: true, made: Ok(made) } = signal else { panic!("{signal:?}") };
+        assert!(returns(made.answer).iter().any(|it| matches!(it, Return::Transaction(_))));
+        woken.push(seat);
+    }
+    assert_eq!(woken, [1, 0]);
+    assert_eq!(live.suspects(), 0);
+    live.give_doorbell(2).expect("it has a doorbell");
+    assert_eq!(live.settle(16), (Some(Signal::Bell { seat: 2, rings: true }), false));
+    assert_eq!(live.attach(2, 100), Err(Error::Waiting));
+    live.stop_waiting(2).expect("it stops");
+    assert_eq!(live.wait(9, 256, false), Err(Error::NoSuchSeat));
 }
 
 #[test]

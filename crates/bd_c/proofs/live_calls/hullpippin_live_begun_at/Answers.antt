@@ -6,5 +6,5 @@ use Rattle.bd_c.proofs.live_calls.hullpippin_live_begun_at.Goals as goal
 
 pub returns-clause-begins : goal.returns-clause-begins
 returns-clause-begins c = λ _.
-    made c.open_live_at.result (λ b. b.value) c.put_made.result c.put_made.new.handle.held (λ k. Of live_of k (Begins (refusals c.args.seats c.args.steps))) (IsLiveRefusal c.args.seats)
+    made c.open_live_at.result (λ b. b.value) c.put_made.result c.put_made.new.handle.held (λ k. Of live_of k (Begins (refusals c.args.seats c.args.steps) 0)) (IsLiveRefusal c.args.seats)
     c.open_live_at.ensures.ok c.open_live_at.ensures.refused c.put_made.ensures

@@ -7,5 +7,5 @@ use Rattle.bd_c.proofs.live_calls.hullpippin_live_new.Goals as goal
 
 pub returns-clause-begins : goal.returns-clause-begins
 returns-clause-begins c = λ _.
-    made c.open_live.result (λ b. b.value) c.put_made.result c.put_made.new.handle.held (λ k. Of live_of k (Begins (history_of c.args.seats []))) (IsLiveRefusal c.args.seats)
+    made c.open_live.result (λ b. b.value) c.put_made.result c.put_made.new.handle.held (λ k. Of live_of k (Begins (history_of c.args.seats []) 0)) (IsLiveRefusal c.args.seats)
     c.open_live.ensures.ok c.open_live.ensures.refused c.put_made.ensures

@@ -12,6 +12,11 @@ returns-in-Ok c =
         ended = refl;
         notes = record { noted = refl; changed = refl };
         follows = c.in-Ok.ensures.follows;
+        waits = refl;
+        watches = λ h w. record {
+          follows = record { follows = c.in-Ok.ensures.follows h w.follows.follows; recalls = λ _. c.in-Ok.ensures.afresh h w.follows.follows };
+          watched = w.watched;
+        };
       };
       whole = c.in-Ok.ensures.whole;
       exact = λ all before h k follows list. ap (λ ls. is_among ls list) lists ∙ c.in-Ok.ensures.exact all before h k follows list;
@@ -29,6 +34,11 @@ returns-in-Err c = (
       ended = refl;
       notes = record { noted = refl; changed = refl };
       follows = c.in-Err.ensures.follows;
+      waits = refl;
+      watches = λ h w. record {
+        follows = record { follows = c.in-Err.ensures.follows h w.follows.follows; recalls = λ is. c.in-Err.ensures.err _ (w.follows.recalls is) };
+        watched = w.watched;
+      };
     };
     lists = record { reached = refl; whole = refl };
     recalls = c.in-Err.ensures.err;

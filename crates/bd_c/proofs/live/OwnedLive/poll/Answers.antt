@@ -11,11 +11,11 @@ returns c =
     let rest = drop (length new) c.resize.new.self.items in
     let len : c.resize.new.self.len ≡ length new = omega (arith, c.as_mut_slice.ensures.len, c.note_ready.ensures.len) in
     let is = c.as_mut_slice.ensures.value ∙ c.in-Ok-resize.ensures.items ∙ ap (λ n. take n x.noted.items ++ replicate (n - vec_len x.noted) false) c.seats.ensures.field in
-    let all : x.live.seats ≡ length mid = omega (arith, c.as_mut_slice.ensures.len, c.in-Ok-resize.ensures.len, c.seats.ensures.field) in
+    let all : x.bridge.engine.live.seats ≡ length mid = omega (arith, c.as_mut_slice.ensures.len, c.in-Ok-resize.ensures.len, c.seats.ensures.field) in
     record {
-      only = record { live = refl; latest = refl; ended = refl; lists = record { reached = refl; whole = refl } };
+      only = record { bridge = refl; latest = refl; ended = refl; lists = record { reached = refl; whole = refl } };
       noted = λ h follows.
-          polled h x _ c.args.seats.now mid new c.note_ready.new.changed.items (x.live.seats - vec_len x.noted) is all
+          polled h x _ c.args.seats.now mid new c.note_ready.new.changed.items (x.bridge.engine.live.seats - vec_len x.noted) is all
           (ap (λ (k : ℕ). take k (new ++ rest)) len ∙ take-append_seam new rest) (ap (λ v. v.items) c.swap.ensures.x_after)
           (c.note_ready.ensures.seen h follows) (c.note_ready.ensures.changed h follows)
           (c.note_ready.ensures.once h follows) c.note_ready.ensures.inside;
