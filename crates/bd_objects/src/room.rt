@@ -15,6 +15,7 @@ pub struct Room {
 
 impl Room {
     /// Whether it is for at most so many of each, but for names.
+    #[inline(always)]
     pub(crate) fn is_within(self, each: usize) -> bool
         ensures { result ≡ true → IsWithin self each }
     {

@@ -134,7 +134,31 @@ impl ObjectTable {
         self.reserve_lists(room.objects, room.references, room.deaths)
     }
 
+    // Makes this room where it may not be there.
+    #[inline(never)]
+    #[tactic(auto, unfolding(crate::specs::Room::rooms))]
+    fn reserve_more(&mut self, room: Room) -> Result<(), AllocError>
+        ensures stands { IsKept self.old self.new }
+        ensures uses { UsesNothing self.old self.new }
+        ensures room { OnOk result (HasRoom self.new room) }
+        ensures grown { OnErr result (HasRoom self.old room → ⊥) }
+    {
+        self.reserve_beside_names(room)?;
+        self.reserve_names(room.process, room.names)
+    }
+
+    // Whether this room surely is there.
+    #[inline(always)]
+    #[tactic(auto, unfolding(crate::specs::Room::rooms))]
+    fn has_room(&self, room: Room) -> bool
+        ensures { result ≡ true → HasRoom self.now room }
+    {
+        let named = room.process == self.named && room.names <= self.sure_names;
+        room.is_within(self.sure_room) && (room.names == 0 || named)
+    }
+
     /// Makes this room. Changes nothing else.
+    #[inline(always)]
     #[tactic(auto, unfolding(crate::specs::Room::rooms))]
     pub fn reserve(&mut self, room: Room) -> Result<(), AllocError>
         ensures stands { IsKept self.old self.new }
@@ -143,7 +167,10 @@ impl ObjectTable {
         // Memory was asked for: there was no room.
         ensures grown { OnErr result (HasRoom self.old room → ⊥) }
     {
-        self.reserve_beside_names(room)?;
-        self.reserve_names(room.process, room.names)
+        // Put into its callers: most ask for none, and others for what is there.
+        if self.has_room(room) {
+            return Ok(());
+        }
+        self.reserve_more(room)
     }
 }
