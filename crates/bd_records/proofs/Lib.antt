@@ -1,0 +1,9 @@
+mod Keyed
+mod Naming
+mod Tallies
+mod Lists
+mod Buffering
+mod Holding
+mod Named
+mod Asked
+mod Coming

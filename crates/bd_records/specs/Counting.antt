@@ -1,0 +1,71 @@
+-- What a reference that comes or goes changes of the records.
+use Rattle.std.specs.Prelude.{ℕ, Bool, true, false, ◌==◌, Option, Some, None, ◌&&◌}
+use Rattle.bd_ways.specs.Words.{beq, Identity, Reference, Holder, Asked, Carried, Handshake, same}
+use Rattle.bd_records.specs.declared.{count.Count.{Count}, row.ObjectRow.{ObjectRow}, row.NameRow.{NameRow}}
+use Rattle.bd_records.specs.Count.{no_count, one_more, less, only}
+
+abbrev pub one_less : Bool → Count → Count
+one_less strong c = less c (only strong 1)
+
+-- f changes what the owner has yet to acknowledge, where the reference stands for that
+abbrev pub owed_by : Holder → (Count → Count) → Count → Count
+owed_by Handshake f c = f c
+owed_by _ f c = c
+
+abbrev pub asked_by : Holder → (Count → Count) → Count → Count
+asked_by (Asked q) f c = f c
+asked_by _ f c = c
+
+abbrev pub carried_by : Holder → (Count → Count) → Count → Count
+carried_by (Carried b q) f c = f c
+carried_by _ f c = c
+
+abbrev pub counting : Reference → ObjectRow → ObjectRow
+counting r w = record { object = w.object; total = one_more r.strong w.total; owed = owed_by r.holder (one_more r.strong) w.owed }
+
+abbrev pub discounting : Reference → ObjectRow → ObjectRow
+discounting r w = record { object = w.object; total = one_less r.strong w.total; owed = owed_by r.holder (one_less r.strong) w.owed }
+
+abbrev pub name_counting : Reference → NameRow → NameRow
+name_counting r w = record { object = w.object; asked = asked_by r.holder (one_more r.strong) w.asked; carried = carried_by r.holder (one_more r.strong) w.carried }
+
+abbrev pub name_discounting : Reference → NameRow → NameRow
+name_discounting r w = record { object = w.object; asked = asked_by r.holder (one_less r.strong) w.asked; carried = carried_by r.holder (one_less r.strong) w.carried }
+
+-- one comes, or goes
+abbrev pub turned : Bool → Reference → ObjectRow → ObjectRow
+turned true r w = counting r w
+turned false r w = discounting r w
+
+abbrev pub name_turned : Bool → Reference → NameRow → NameRow
+name_turned true r w = name_counting r w
+name_turned false r w = name_discounting r w
+
+-- what the records count: none where there is no record
+abbrev pub total_of : Option ObjectRow → Count
+total_of None = no_count
+total_of (Some w) = w.total
+
+abbrev pub owed_of : Option ObjectRow → Count
+owed_of None = no_count
+owed_of (Some w) = w.owed
+
+abbrev pub asked_of : Option NameRow → Count
+asked_of None = no_count
+asked_of (Some w) = w.asked
+
+abbrev pub carried_of : Option NameRow → Count
+carried_of None = no_count
+carried_of (Some w) = w.carried
+
+-- ---- of which references
+
+abbrev pub is_to : Identity → Bool → Reference → Bool
+is_to o strong r = beq r.strong strong && same r.object o
+
+abbrev pub is_carried_to : ℕ → Holder → Bool
+is_carried_to p (Carried b q) = q == p
+is_carried_to p _ = false
+
+abbrev pub is_carrying : ℕ → Identity → Bool → Reference → Bool
+is_carrying p o strong r = beq r.strong strong && same r.object o && is_carried_to p r.holder

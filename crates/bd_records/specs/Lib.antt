@@ -1,0 +1,10 @@
+pub mod Count
+pub mod Slots
+pub mod Objects
+pub mod NameRows
+pub mod Names
+pub mod Counting
+pub mod Counted
+pub mod Buffers
+pub mod Records
+pub mod NamesAre

@@ -1,0 +1,40 @@
+-- What the records stand for: objects, and the references to them.
+use Rattle.std.specs.Prelude.{ℕ, ◌≡◌, ◌≤◌, ◌-◌, ◌==◌, Bool, true, false, List, length, Option, None, Some, is_some, option_map, min}
+use Rattle.bd_ways.specs.Words.{Identity, Object, Reference}
+use Rattle.bd_space.specs.References.{object_in, owned_in, gives_name_to}
+use Rattle.bd_records.specs.declared.{row.ObjectRow.{ObjectRow}, records.Records.{Records}}
+use Rattle.bd_records.specs.{Objects.{row_at}, Names.{name_at}, Counted.{CountsAre}, Buffers.{BuffersAre, buffer_room}}
+
+-- the record is of an object of the process
+abbrev pub is_owner : ℕ → Option ObjectRow → Bool
+is_owner p None = false
+is_owner p (Some w) = w.object.owner == p
+
+pub record RecordsAre (t : Records) (objects : List Object) (l : List Reference) : Type 0 where
+  pub objects_are : (o : Identity) → object_in objects o ≡ option_map (λ w. w.object) (row_at t.objects o)
+  pub owners : (p : ℕ) (o : Identity) → owned_in objects p o ≡ is_owner p (row_at t.objects o)
+  pub counts : CountsAre (row_at t.objects) (name_at t.names) objects l
+  pub held : BuffersAre t.held l
+  -- no counter is above the number of those that ever came in
+  pub few : length l ≤ t.made
+
+-- The reference has its place: its object is there, and who names another's by it has a name for that.
+pub record IsHomed (t : Records) (objects : List Object) (r : Reference) : Type 0 where
+  pub here : is_some (row_at t.objects r.object) ≡ true
+  pub named : (p : ℕ) → gives_name_to p r.holder ≡ true → owned_in objects p r.object ≡ false → is_some (name_at t.names p r.object) ≡ true
+
+-- how many references more take no memory
+abbrev pub reference_room : Records → ℕ
+reference_room t = min (buffer_room t.held) (18446744073709551615 - t.made)
+
+-- every list of references that the old one stood for was changed by f
+abbrev pub Makes : Records → Records → (List Reference → List Reference) → Type 0
+Makes old new f = (objects : List Object) (l : List Reference) → RecordsAre old objects l → RecordsAre new objects (f l)
+
+-- of every such list x is what f says
+abbrev pub Tells : {A : Type 0} → Records → A → (List Reference → A) → Type 0
+Tells t x f = (objects : List Object) (l : List Reference) → RecordsAre t objects l → x ≡ f l
+
+-- the same, where the process doesn't own the object
+abbrev pub TellsOfOthers : {A : Type 0} → Records → ℕ → Identity → A → (List Reference → A) → Type 0
+TellsOfOthers t p o x f = (objects : List Object) (l : List Reference) → RecordsAre t objects l → owned_in objects p o ≡ false → x ≡ f l

@@ -1,0 +1,50 @@
+//! Objects that come and go.
+
+ghost use Rattle.std.specs.Prelude.{◌≡◌, ◌≤◌, ◌++◌, ◌∷◌, [], false, not, filter, None, List};
+ghost use Rattle.bd_space.specs.Words.{same};
+ghost use Rattle.bd_space.specs.References as refer;
+ghost use Rattle.bd_space.specs.declared.space.{Object.{Object}, Reference.{Reference}};
+
+use crate::count::Count;
+use crate::records::Records;
+use crate::row::ObjectRow;
+use bd_space as space;
+use bd_space::Identity;
+
+impl Records {
+    ghost use Rattle.bd_records.specs.{Objects.{object_room}, Records.{RecordsAre}};
+
+    /// Whether the process owns the object.
+    #[inline(always)]
+    pub fn owns(&self, p: u64, o: Identity, near: usize) -> bool
+        ensures { (objects : List Object) (l : List Reference) → RecordsAre self.now objects l → result ≡ refer.owned_in objects p o }
+    {
+        match self.objects.row_near(o, near) {
+            Some(w) => w.object.owner == p,
+            None => false,
+        }
+    }
+
+    /// Takes in an object that is new: no other has its identity. Answers where its record is.
+    pub fn add_object(&mut self, x: space::Object) -> usize
+        requires { 1 ≤ object_room self.old.objects }
+        ensures stands { (objects : List Object) (l : List Reference) → refer.object_in objects x.id ≡ None
+            → RecordsAre self.old objects l → RecordsAre self.new (objects ++ x ∷ []) l }
+        ensures names { self.new.names ≡ self.old.names }
+    {
+        self.objects.insert(ObjectRow {
+            object: x,
+            total: Count::none(),
+            owed: Count::none(),
+        })
+    }
+
+    /// The object goes, to which nothing refers.
+    pub fn remove_object(&mut self, o: Identity, near: usize)
+        ensures stands { (objects : List Object) (l : List Reference) → refer.held_in l o ≡ false
+            → RecordsAre self.old objects l → RecordsAre self.new (filter (λ x. not (same x.id o)) objects) l }
+        ensures names { self.new.names ≡ self.old.names }
+    {
+        self.objects.remove(o, near);
+    }
+}

@@ -1,0 +1,24 @@
+//! Objects, their names and what refers to them, as records that are found by index.
+#![tactic(auto)]
+
+mod buffers;
+mod called;
+mod change;
+mod count;
+mod counting;
+mod keys;
+mod listed;
+mod names;
+mod objects;
+mod records;
+mod row;
+mod slots;
+mod turning;
+
+pub use count::Count;
+pub use listed::{give_name, name_number, named_object, new_names, remove_name};
+pub use names::Names;
+pub use objects::Objects;
+pub use records::{Hold, Records};
+pub use row::{NameRow, ObjectRow};
+pub use turning::Near;

@@ -1,0 +1,74 @@
+//! The names that the records stand for.
+
+ghost use Rattle.std.specs.Prelude.{ℕ, ◌≡◌, ◌==◌, ◌&&◌, ◌≤◌, ◌+◌, [], true, Some, None, is_some, if◌then◌else◌, not, filter, List, IfOk, OnOk, OnErr};
+ghost use Rattle.bd_keys.specs.Tables.{Makes, Tells};
+ghost use Rattle.bd_space.specs.declared.space.Name as declared;
+ghost use Rattle.bd_space.specs.Names as names_of;
+ghost use Rattle.bd_space.specs.Words.{same};
+ghost use Rattle.bd_space.specs.declared.step.Identity as object;
+ghost use Rattle.bd_records.specs.NameRows.{new_row};
+ghost use Rattle.bd_handles.specs.Sound.{has_object};
+ghost use Rattle.bd_records.specs.{Names.{name_room, number_of, name_at}, NamesAre.{NamesAre}};
+ghost use Rattle.bd_handles.specs.Numbers.{with_number, IsFull};
+
+use crate::names::Names;
+use bd_handles::NumbersFull;
+use bd_space::Identity;
+use std::alloc::Global;
+
+/// No names.
+pub fn new_names(alloc: Global) -> Names
+    ensures { NamesAre result [] }
+{
+    Names::new(alloc)
+}
+
+/// The object that the number names for the process.
+pub fn named_object(names: &Names, p: u64, n: u32, near: usize) -> Option<Identity>
+    ensures { Tells (NamesAre names.now) result (λ l. names_of.named_in l p n) }
+{
+    names.named(p, n, near)
+}
+
+/// The process's number of the object, if it names it: mostly this one.
+pub fn name_number(names: &Names, p: u64, o: Identity, n: u32, near: usize) -> Option<u32>
+    ensures { Tells (NamesAre names.now) result (λ l. names_of.number_in l p o) }
+{
+    names.number_near(p, o, n, near)
+}
+
+/// The process has a name for the object afterwards: the one that it had, or else with the least number that it doesn't
+/// use, from 0 or from 1. Answers the number.
+pub fn give_name(
+    names: &mut Names,
+    from_zero: bool,
+    p: u64,
+    o: Identity,
+    n: u32,
+    near: usize,
+) -> Result<u32, NumbersFull>
+    requires { 1 ≤ name_room names.old p }
+    ensures ok { OnOk result (Makes (NamesAre names.old) (NamesAre names.new) (λ l. with_number from_zero p l o)) }
+    ensures number { IfOk result (λ n. number_of names.new p o ≡ Some n) }
+    ensures had { is_some (number_of names.old p o) ≡ true → names.new ≡ names.old }
+    ensures rows { number_of names.old p o ≡ None → OnOk result ((q : ℕ) (x : object.Identity)
+        → name_at names.new q x ≡ (if (p == q) && same o x then Some (new_row o) else name_at names.old q x)) }
+    ensures err { OnErr result (names.new ≡ names.old) }
+    ensures full { OnErr result ((l : List declared.Name) → NamesAre names.old l → IsFull from_zero p l o) }
+    ensures uses { (q : ℕ) → name_room names.old q ≤ name_room names.new q + 1 }
+{
+    if let Some(n) = names.number_near(p, o, n, near) {
+        return Ok(n);
+    }
+    names.give(from_zero, p, o, n, near)
+}
+
+/// The process's name of the object goes, if it has one.
+pub fn remove_name(names: &mut Names, p: u64, o: Identity, n: u32, near: usize)
+    ensures stands { Makes (NamesAre names.old) (NamesAre names.new) (λ l. filter (λ m. not (has_object p o m)) l) }
+    ensures rows { (q : ℕ) (x : object.Identity) → name_at names.new q x
+        ≡ (if (p == q) && same o x then None else name_at names.old q x) }
+    ensures uses { (q : ℕ) → name_room names.old q ≤ name_room names.new q }
+{
+    names.remove(p, o, n, near);
+}

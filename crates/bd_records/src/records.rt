@@ -1,0 +1,207 @@
+//! The table: objects, names and references, each in its record.
+
+ghost use Rattle.std.specs.Prelude.{ℕ, ◌≡◌, ◌==◌, ◌≤◌, ◌+◌, ◌&&◌, ◌++◌, ◌∷◌, [], false, not, filter, List, OnOk, OnErr};
+ghost use Rattle.std.specs.List.{list_any};
+ghost use Rattle.bd_space.specs.{Words.{same, without_first}};
+ghost use Rattle.bd_space.specs.References as refer;
+ghost use Rattle.bd_space.specs.declared.space.{Object.{Object}, Reference.{Reference}};
+
+use crate::buffers::Buffers;
+use crate::names::Names;
+use crate::objects::Objects;
+use crate::turning::{Near, turn};
+use bd_space::{Holder, Identity, Origin, Reference};
+use std::alloc::{AllocError, Global};
+
+/// Objects, the names that processes have for them, and the references to them.
+#[derive(Drop)]
+pub struct Records {
+    pub objects: Objects,
+    pub names: Names,
+    // Those of each buffer, in their order.
+    pub(crate) held: Buffers,
+    // How many ever came in. No counter is above it.
+    pub(crate) made: u64,
+}
+
+/// How an object is referred to.
+#[derive(Clone, Copy)]
+pub struct Hold {
+    pub is_held: bool,
+    pub is_strong: bool,
+}
+
+impl Records {
+    ghost use Rattle.bd_records.specs.Records.{RecordsAre, IsHomed, Makes, Tells, TellsOfOthers, reference_room};
+    ghost use Rattle.bd_records.specs.NamesAre.{KeepsNames};
+
+    /// No objects, no references.
+    pub fn new(alloc: Global) -> Records
+        ensures { RecordsAre result [] [] }
+    {
+        Records {
+            objects: Objects::new(alloc),
+            names: Names::new(alloc),
+            held: Buffers::new(alloc),
+            made: 0,
+        }
+    }
+
+    /// Makes room for so many references more. Changes nothing else, also on an `Err`.
+    pub fn reserve(&mut self, more: usize) -> Result<(), AllocError>
+        ensures stands { Makes self.old self.new (λ l. l) }
+        ensures uses { reference_room self.old ≤ reference_room self.new }
+        ensures room { OnOk result (more ≤ reference_room self.new) }
+        // Memory was asked for, or more would come in than `made` can count: there was no room.
+        ensures grown { OnErr result (more ≤ reference_room self.old → ⊥) }
+    {
+        if more as u64 > u64::MAX - self.made {
+            return Err(AllocError);
+        }
+        self.held.reserve(more)
+    }
+
+    /// How the object is referred to.
+    #[inline(always)]
+    pub fn hold(&self, o: Identity, near: usize) -> Hold
+        ensures held { Tells self.now result.is_held (λ l. refer.held_in l o) }
+        ensures strong { Tells self.now result.is_strong (λ l. refer.strong_in l o) }
+    {
+        match self.objects.row_near(o, near) {
+            Some(w) => Hold {
+                is_held: !w.total.is_empty(),
+                is_strong: w.total.strong > 0,
+            },
+            None => Hold {
+                is_held: false,
+                is_strong: false,
+            },
+        }
+    }
+
+    /// Whether the process, which doesn't own the object, asked for it in this strength.
+    #[inline(always)]
+    pub fn is_asked(&self, p: u64, o: Identity, strong: bool, near: Near) -> bool
+        ensures { TellsOfOthers self.now p o result (λ l. list_any (refer.is_asking p o strong) l) }
+    {
+        match self.names.row_near(p, o, near.number, near.process) {
+            Some(w) => w.asked.of(strong) > 0,
+            None => false,
+        }
+    }
+
+    /// Whether the owner is to acknowledge the object in this strength.
+    #[inline(always)]
+    pub fn is_shaken(&self, o: Identity, strong: bool, near: usize) -> bool
+        ensures { Tells self.now result (λ l. list_any (refer.is_shaking o strong) l) }
+    {
+        match self.objects.row_near(o, near) {
+            Some(w) => w.owed.of(strong) > 0,
+            None => false,
+        }
+    }
+
+    /// Whether the process, which doesn't own the object, refers to it: it asked for it, or a buffer in its window carries it.
+    #[inline(always)]
+    pub fn refers(&self, p: u64, o: Identity, near: Near) -> bool
+        ensures { TellsOfOthers self.now p o result
+            (λ l. list_any (λ r. same r.object o && refer.gives_name_to p r.holder) l) }
+    {
+        match self.names.row_near(p, o, near.number, near.process) {
+            Some(w) => !w.asked.is_empty() || !w.carried.is_empty(),
+            None => false,
+        }
+    }
+
+    /// One reference more, after the others, which has its place.
+    pub fn push(&mut self, r: Reference, near: Near)
+        requires { 1 ≤ reference_room self.old }
+        ensures stands { (objects : List Object) (l : List Reference) → IsHomed self.old objects r
+            → RecordsAre self.old objects l → RecordsAre self.new objects (l ++ r ∷ []) }
+        ensures names { KeepsNames self.old.names self.new.names }
+        ensures uses { reference_room self.old ≤ reference_room self.new + 1 }
+    {
+        turn(&mut self.objects, &mut self.names, r, true, near);
+        self.held.push(r);
+        self.made = self.made.saturating_add(1);
+    }
+
+    /// The least reference of this strength goes that the process, which doesn't own the object, asked for, if there is one.
+    pub fn drop_asked(&mut self, p: u64, o: Identity, strong: bool, near: Near)
+        ensures stands { (objects : List Object) (l : List Reference) → refer.owned_in objects p o ≡ false
+            → RecordsAre self.old objects l → RecordsAre self.new objects (without_first (refer.is_asking p o strong) l) }
+        ensures names { KeepsNames self.old.names self.new.names }
+        ensures uses { reference_room self.old ≤ reference_room self.new }
+    {
+        if self.is_asked(p, o, strong, near) {
+            let r = Reference {
+                id: Origin { place: 0, index: 0 },
+                object: o,
+                strong,
+                holder: Holder::Asked(p),
+            };
+            turn(&mut self.objects, &mut self.names, r, false, near);
+        }
+    }
+
+    /// The least reference of this strength goes that stands for an acknowledgement, if there is one.
+    pub fn drop_shaken(&mut self, o: Identity, strong: bool, near: Near)
+        ensures stands { Makes self.old self.new (λ l. without_first (refer.is_shaking o strong) l) }
+        ensures names { KeepsNames self.old.names self.new.names }
+        ensures uses { reference_room self.old ≤ reference_room self.new }
+    {
+        if self.is_shaken(o, strong, near.object) {
+            let r = Reference {
+                id: Origin { place: 0, index: 0 },
+                object: o,
+                strong,
+                holder: Holder::Handshake,
+            };
+            turn(&mut self.objects, &mut self.names, r, false, near);
+        }
+    }
+
+    // The first of the references goes that the buffer holds, if it holds any. Where the records are isn't known.
+    fn pop_held(&mut self, b: u64) -> bool
+        ensures stands { Makes self.old self.new (λ l. without_first (λ r. refer.is_of_buffer b r.holder) l) }
+        ensures any { Tells self.old result (λ l. list_any (λ r. refer.is_of_buffer b r.holder) l) }
+        ensures names { KeepsNames self.old.names self.new.names }
+        ensures uses { reference_room self.old ≤ reference_room self.new }
+    {
+        let near = Near {
+            object: 0,
+            number: 0,
+            process: 0,
+        };
+        match self.held.pop(b) {
+            Some(r) => {
+                turn(&mut self.objects, &mut self.names, r, false, near);
+                true
+            }
+            None => false,
+        }
+    }
+
+    // One after the other goes, until the buffer holds none.
+    fn remove_each(&mut self, b: u64)
+        ensures stands { Makes self.old self.new (λ l. filter (λ r. not (refer.is_of_buffer b r.holder)) l) }
+        ensures names { KeepsNames self.old.names self.new.names }
+        ensures uses { reference_room self.old ≤ reference_room self.new }
+    {
+        for _ in 0..self.held.len() {
+            if !self.pop_held(b) {
+                return;
+            }
+        }
+    }
+
+    /// The references go that the buffer held.
+    pub fn remove_buffer(&mut self, b: u64)
+        ensures stands { Makes self.old self.new (λ l. filter (λ r. not (refer.is_of_buffer b r.holder)) l) }
+        ensures names { KeepsNames self.old.names self.new.names }
+        ensures uses { reference_room self.old ≤ reference_room self.new }
+    {
+        self.remove_each(b);
+        self.held.close(b);
+    }
+}
