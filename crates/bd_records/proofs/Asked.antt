@@ -24,6 +24,7 @@ module _ (O : Identity → Option ObjectRow) (N M : ℕ → Identity → Option 
   counts_named none rows = record {
     totals = h.totals;
     owed = h.owed;
+    managed = h.managed;
     asked = λ q x s free. ap (of_strength s) (blank asked_of refl refl q x) ∙ h.asked q x s free;
     carried = λ q x s free. ap (of_strength s) (blank carried_of refl refl q x) ∙ h.carried q x s free;
     asked_few = λ q x s. subst (λ n. n ≤ count_by (is_asking q x s) l) (sym (ap (of_strength s) (blank asked_of refl refl q x))) (h.asked_few q x s);
@@ -46,6 +47,7 @@ module _ (O : Identity → Option ObjectRow) (N M : ℕ → Identity → Option 
   counts_unnamed none rows = record {
     totals = h.totals;
     owed = h.owed;
+    managed = h.managed;
     asked = λ q x s free. at_asked q x s free ((p == q) && same o x) refl;
     carried = λ q x s free. at_carried q x s free ((p == q) && same o x) refl;
     asked_few = λ q x s. few asked_of refl q x s _ ((p == q) && same o x) refl (h.asked_few q x s);

@@ -7,15 +7,15 @@ use Rattle.bd_space.specs.References.{object_in, owned_in, held_in, is_asking, i
 use Rattle.bd_space.proofs.Identities.{same_eq}
 use Rattle.bd_records.specs.declared.{count.Count.{Count}, row.ObjectRow.{ObjectRow}, row.NameRow.{NameRow}}
 use Rattle.bd_records.specs.Count.{no_count, of_strength}
-use Rattle.bd_records.specs.Counting.{total_of, owed_of, asked_of, carried_of, is_to, is_carrying}
+use Rattle.bd_records.specs.Counting.{total_of, owed_of, managed_of, asked_of, carried_of, is_to, is_managing, is_carrying}
 use Rattle.bd_records.specs.{Counted.{CountsAre}, Records.{is_owner}}
 use Rattle.bd_records.proofs.Asked.{none_count}
 
-abbrev object_of : ObjectRow → Object
+abbrev pub object_of : ObjectRow → Object
 object_of w = w.object
 
 -- two that are one with a third are one
-both_same : (a b c : Identity) → same a c ≡ true → same b c ≡ true → same a b ≡ true
+pub both_same : (a b c : Identity) → same a c ≡ true → same b c ≡ true → same a b ≡ true
 both_same a b c h k = subst (λ y. same a y ≡ true) (sym (same_eq b c k)) h
 
 -- ---- one comes
@@ -82,7 +82,7 @@ no_object (Some v) h = absurd cc
 
 module _ (O O' : Identity → Option ObjectRow) (N : ℕ → Identity → Option NameRow) (objects : List Object) (l : List Reference) (h : CountsAre O N objects l)
     (are : (o : Identity) → object_in objects o ≡ option_map object_of (O o)) (owners : (p : ℕ) (o : Identity) → owned_in objects p o ≡ is_owner p (O o)) where
-  module _ (x : Object) (new : object_in objects x.id ≡ None) (row : ObjectRow) (is : row ≡ record { object = x; total = no_count; owed = no_count })
+  module _ (x : Object) (new : object_in objects x.id ≡ None) (row : ObjectRow) (is : row ≡ record { object = x; total = no_count; owed = no_count; managed = no_count })
       (rows : (o : Identity) → O' o ≡ cond (same x.id o) (Some row) (O o)) where
     absent : O x.id ≡ None
     absent = no_object (O x.id) (sym new ∙ are x.id)
@@ -108,13 +108,14 @@ module _ (O O' : Identity → Option ObjectRow) (N : ℕ → Identity → Option
     came_counts = record {
       totals = λ o s. kept total_of refl refl o s ∙ h.totals o s;
       owed = λ o s. kept owed_of refl refl o s ∙ h.owed o s;
+      managed = λ o s. kept managed_of refl refl o s ∙ h.managed o s;
       asked = λ p o s free. h.asked p o s ((or_parts (owned_in objects p o) (same x.id o && (x.owner == p)) (sym (owned_more objects x p o) ∙ free)).0);
       carried = λ p o s free. h.carried p o s ((or_parts (owned_in objects p o) (same x.id o && (x.owner == p)) (sym (owned_more objects x p o) ∙ free)).0);
       asked_few = h.asked_few;
       carried_few = h.carried_few;
     }
       where
-        kept : (f : Option ObjectRow → Count) → f None ≡ no_count → f (Some (record { object = x; total = no_count; owed = no_count })) ≡ no_count → (o : Identity) (s : Bool) → of_strength s (f (O' o)) ≡ of_strength s (f (O o))
+        kept : (f : Option ObjectRow → Count) → f None ≡ no_count → f (Some (record { object = x; total = no_count; owed = no_count; managed = no_count })) ≡ no_count → (o : Identity) (s : Bool) → of_strength s (f (O' o)) ≡ of_strength s (f (O o))
         kept f a b o s = ap (of_strength s) (at (same x.id o) refl)
           where
             at : (d : Bool) → same x.id o ≡ d → f (O' o) ≡ f (O o)
@@ -151,6 +152,7 @@ module _ (O O' : Identity → Option ObjectRow) (N : ℕ → Identity → Option
     went_counts = record {
       totals = λ y s. at_total y s (same o y) refl;
       owed = λ y s. at_owed y s (same o y) refl;
+      managed = λ y s. at_managed y s (same o y) refl;
       asked = λ p y s free. at_asked p y s (same o y) refl free;
       carried = λ p y s free. at_carried p y s (same o y) refl free;
       asked_few = h.asked_few;
@@ -164,6 +166,10 @@ module _ (O O' : Identity → Option ObjectRow) (N : ℕ → Identity → Option
         at_owed : (y : Identity) (s b : Bool) → same o y ≡ b → of_strength s (owed_of (O' y)) ≡ count_by (is_shaking y s) l
         at_owed y s true e = gone_row owed_of refl y e s ∙ sym (nothing_to y e (is_shaking y s) (λ x k. grind (arith, k)))
         at_owed y s false e = ap (λ w. of_strength s (owed_of w)) (rows y ∙ ap (λ b. cond b None (O y)) e) ∙ h.owed y s
+
+        at_managed : (y : Identity) (s b : Bool) → same o y ≡ b → of_strength s (managed_of (O' y)) ≡ count_by (is_managing y s) l
+        at_managed y s true e = gone_row managed_of refl y e s ∙ sym (nothing_to y e (is_managing y s) (λ x k. grind (arith, k)))
+        at_managed y s false e = ap (λ w. of_strength s (managed_of w)) (rows y ∙ ap (λ b. cond b None (O y)) e) ∙ h.managed y s
 
         at_asked : (p : ℕ) (y : Identity) (s b : Bool) → same o y ≡ b → owned_in (filter (λ x. not (same x.id o)) objects) p y ≡ false → of_strength s (asked_of (N p y)) ≡ count_by (is_asking p y s) l
         at_asked p y s true e free = zero_few (h.asked_few p y s) (nothing_to y e (is_asking p y s) (λ x k. grind (arith, k)))

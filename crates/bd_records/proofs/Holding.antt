@@ -126,6 +126,18 @@ refers_counts p o l =
     || any_either (λ r. same r.object o && is_carried_to p r.holder) (is_carrying p o false) (is_carrying p o true) (λ x. grind (arith, either x.strong (same x.object o && is_carried_to p x.holder))) l i)
     ∙ (λ i. (any_counts (is_asking p o false) l i || any_counts (is_asking p o true) l i) || (any_counts (is_carrying p o false) l i || any_counts (is_carrying p o true) l i))
 
+pub strongly_counts : (p : ℕ) (o : Identity) (l : List Reference) → list_any (λ r. r.strong && same r.object o && gives_name_to p r.holder) l
+    ≡ (nat_lt 0 (count_by (is_asking p o true) l) || nat_lt 0 (count_by (is_carrying p o true) l))
+strongly_counts p o l =
+    any_either (λ r. r.strong && same r.object o && gives_name_to p r.holder) (is_asking p o true) (is_carrying p o true)
+    (λ x. test x.strong (same x.object o) (gives_name_to p x.holder) (is_asked_by p x.holder) (is_carried_to p x.holder) (name_test p x.holder)) l
+    ∙ (λ i. any_counts (is_asking p o true) l i || any_counts (is_carrying p o true) l i)
+  where
+    test : (a b d e f : Bool) → d ≡ (e || f) → (a && b && d) ≡ ((beq a true && b && e) || (beq a true && b && f))
+    test true true d e f h = h
+    test true false d e f h = refl
+    test false b d e f h = refl
+
 pub or_true : (a b : Bool) → a ≡ true → (a || b) ≡ true
 or_true true b h = refl
 or_true false b h = absurd cc

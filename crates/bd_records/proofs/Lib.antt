@@ -7,3 +7,5 @@ mod Holding
 mod Named
 mod Asked
 mod Coming
+mod Telling
+mod Disowning

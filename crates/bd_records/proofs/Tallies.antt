@@ -6,7 +6,7 @@ use Rattle.bd_ways.specs.Words.{beq, Identity, Object, Reference, Holder, Asked,
 use Rattle.bd_space.specs.References.{owned_in, is_asking, is_shaking, is_asked_by, is_handshake, gives_name_to}
 use Rattle.bd_records.specs.declared.{count.Count.{Count}, row.ObjectRow.{ObjectRow}, row.NameRow.{NameRow}}
 use Rattle.bd_records.specs.Count.{of_strength, one_more}
-use Rattle.bd_records.specs.Counting.{one_less, counting, discounting, name_counting, name_discounting, total_of, owed_of, asked_of, carried_of, is_to, is_carrying, is_carried_to}
+use Rattle.bd_records.specs.Counting.{one_less, counting, discounting, name_counting, name_discounting, total_of, owed_of, managed_of, asked_of, carried_of, is_to, is_managing, is_managers, is_carrying, is_carried_to}
 use Rattle.bd_records.specs.Counted.{CountsAre}
 
 more_strength : (s b : Bool) (c : Count) (n : ℕ) → of_strength s c ≡ n → n < 18446744073709551615 → of_strength s (one_more b c) ≡ n + cond (beq b s) 1 0
@@ -39,6 +39,16 @@ owed_more true (Some v) r (Carried d q) is s n here e few = grind (arith, e, is)
 owed_more true (Some v) r (Target d q) is s n here e few = grind (arith, e, is)
 owed_more true (Some v) r Manager is s n here e few = grind (arith, e, is)
 owed_more true (Some v) r Handshake is s n here e few = grind (arith, is, more_strength s r.strong v.owed n e few)
+
+managed_more : (b : Bool) (w : Option ObjectRow) (r : Reference) (h : Holder) → r.holder ≡ h → (s : Bool) (n : ℕ) → (b ≡ true → is_some w ≡ true) → of_strength s (managed_of w) ≡ n → n < 18446744073709551615
+    → of_strength s (managed_of (cond b (option_map (counting r) w) w)) ≡ n + cond (beq r.strong s && b && is_managers h) 1 0
+managed_more false w r h is s n here e few = grind (arith, e)
+managed_more true None r h is s n here e few = absurd (let h = here refl in cc)
+managed_more true (Some v) r (Asked q) is s n here e few = grind (arith, e, is)
+managed_more true (Some v) r (Carried d q) is s n here e few = grind (arith, e, is)
+managed_more true (Some v) r (Target d q) is s n here e few = grind (arith, e, is)
+managed_more true (Some v) r Handshake is s n here e few = grind (arith, e, is)
+managed_more true (Some v) r Manager is s n here e few = grind (arith, is, more_strength s r.strong v.managed n e few)
 
 asked_more : (p : ℕ) (b : Bool) (w : Option NameRow) (r : Reference) (h : Holder) → r.holder ≡ h → (s : Bool) (n : ℕ) → ((gives_name_to p h && b) ≡ true → is_some w ≡ true) → of_strength s (asked_of w) ≡ n → n < 18446744073709551615
     → of_strength s (asked_of (cond (gives_name_to p h && b) (option_map (name_counting r) w) w)) ≡ n + cond (beq r.strong s && b && is_asked_by p h) 1 0
@@ -120,6 +130,16 @@ owed_less true (Some v) r (Target d q) is s n e = grind (arith, e, is)
 owed_less true (Some v) r Manager is s n e = grind (arith, e, is)
 owed_less true (Some v) r Handshake is s n e = grind (arith, is, less_strength s r.strong v.owed n e)
 
+managed_less : (b : Bool) (w : Option ObjectRow) (r : Reference) (h : Holder) → r.holder ≡ h → (s : Bool) (n : ℕ) → of_strength s (managed_of w) ≡ n → of_strength s (managed_of (cond b (option_map (discounting r) w) w)) ≡ n - cond (beq r.strong s && b && is_managers h) 1 0
+managed_less false w r h is s n e = grind (arith, e)
+managed_less true None r h is true n e = grind (arith, e)
+managed_less true None r h is false n e = grind (arith, e)
+managed_less true (Some v) r (Asked q) is s n e = grind (arith, e, is)
+managed_less true (Some v) r (Carried d q) is s n e = grind (arith, e, is)
+managed_less true (Some v) r (Target d q) is s n e = grind (arith, e, is)
+managed_less true (Some v) r Handshake is s n e = grind (arith, e, is)
+managed_less true (Some v) r Manager is s n e = grind (arith, is, less_strength s r.strong v.managed n e)
+
 asked_less : (p : ℕ) (b : Bool) (w : Option NameRow) (r : Reference) (h : Holder) → r.holder ≡ h → (s : Bool) (n : ℕ) → of_strength s (asked_of w) ≡ n
     → of_strength s (asked_of (cond (gives_name_to p h && b) (option_map (name_discounting r) w) w)) ≡ n - cond (beq r.strong s && b && is_asked_by p h) 1 0
 asked_less p b w r (Asked q) is s n e = at ((q == p) && b) refl w s e
@@ -177,6 +197,7 @@ module _ (O O' : Identity → Option ObjectRow) (N N' : ℕ → Identity → Opt
   counts_more few comes here named os ns eq = record {
     totals = λ o s. ap (λ w. of_strength s (total_of w)) (os o) ∙ total_more (same r.object o) (O o) r s _ (there o) (h.totals o s) (short (is_to o s)) ∙ sym (comes (λ x t k. beq t s && same x o));
     owed = λ o s. ap (λ w. of_strength s (owed_of w)) (os o) ∙ owed_more (same r.object o) (O o) r r.holder refl s _ (there o) (h.owed o s) (short (is_shaking o s)) ∙ sym (comes (λ x t k. beq t s && same x o && is_handshake k));
+    managed = λ o s. ap (λ w. of_strength s (managed_of w)) (os o) ∙ managed_more (same r.object o) (O o) r r.holder refl s _ (there o) (h.managed o s) (short (is_managing o s)) ∙ sym (comes (λ x t k. beq t s && same x o && is_managers k));
     asked = λ p o s free. ap (λ w. of_strength s (asked_of w)) (ns p o) ∙ asked_more p (same r.object o) (N p o) r r.holder refl s _ (called p o free) (h.asked p o s free) (short (is_asking p o s)) ∙ sym (comes (λ x t k. beq t s && same x o && is_asked_by p k));
     carried = λ p o s free. ap (λ w. of_strength s (carried_of w)) (ns p o) ∙ carried_more p (same r.object o) (N p o) r r.holder refl s _ (called p o free) (h.carried p o s free) (short (is_carrying p o s)) ∙ sym (comes (λ x t k. beq t s && same x o && is_carried_to p k));
     asked_few = λ p o s. (let e = ap (λ w. of_strength s (asked_of w)) (ns p o) in let f = asked_more_few p (same r.object o) (N p o) r r.holder refl s (count_by (is_asking p o s) l) (h.asked_few p o s) in let g = comes (λ x t k. beq t s && same x o && is_asked_by p k) in at_most e f g);
@@ -202,6 +223,7 @@ module _ (O O' : Identity → Option ObjectRow) (N N' : ℕ → Identity → Opt
   counts_less goes os ns = record {
     totals = λ o s. ap (λ w. of_strength s (total_of w)) (os o) ∙ total_less (same r.object o) (O o) r s _ (h.totals o s) ∙ sym (goes (λ x t k. beq t s && same x o));
     owed = λ o s. ap (λ w. of_strength s (owed_of w)) (os o) ∙ owed_less (same r.object o) (O o) r r.holder refl s _ (h.owed o s) ∙ sym (goes (λ x t k. beq t s && same x o && is_handshake k));
+    managed = λ o s. ap (λ w. of_strength s (managed_of w)) (os o) ∙ managed_less (same r.object o) (O o) r r.holder refl s _ (h.managed o s) ∙ sym (goes (λ x t k. beq t s && same x o && is_managers k));
     asked = λ p o s free. ap (λ w. of_strength s (asked_of w)) (ns p o) ∙ asked_less p (same r.object o) (N p o) r r.holder refl s _ (h.asked p o s free) ∙ sym (goes (λ x t k. beq t s && same x o && is_asked_by p k));
     carried = λ p o s free. ap (λ w. of_strength s (carried_of w)) (ns p o) ∙ carried_less p (same r.object o) (N p o) r r.holder refl s _ (h.carried p o s free) ∙ sym (goes (λ x t k. beq t s && same x o && is_carried_to p k));
     asked_few = λ p o s. (let e = ap (λ w. of_strength s (asked_of w)) (ns p o) ∙ asked_less p (same r.object o) (N p o) r r.holder refl s (of_strength s (asked_of (N p o))) refl in let g = goes (λ x t k. beq t s && same x o && is_asked_by p k) in at_least _ e (h.asked_few p o s) g);

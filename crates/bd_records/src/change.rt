@@ -1,7 +1,7 @@
 //! Objects that come and go.
 
 ghost use Rattle.std.specs.Prelude.{◌≡◌, ◌≤◌, ◌++◌, ◌∷◌, [], false, not, filter, None, List};
-ghost use Rattle.bd_space.specs.Words.{same};
+ghost use Rattle.bd_space.specs.Words.{same, changed};
 ghost use Rattle.bd_space.specs.References as refer;
 ghost use Rattle.bd_space.specs.declared.space.{Object.{Object}, Reference.{Reference}};
 
@@ -36,7 +36,17 @@ impl Records {
             object: x,
             total: Count::none(),
             owed: Count::none(),
+            managed: Count::none(),
         })
+    }
+
+    /// Notes what the object's owner was told last: whether the object is held, and whether strongly.
+    pub fn set_told(&mut self, o: Identity, weak: bool, strong: bool, near: usize)
+        ensures stands { (objects : List Object) (l : List Reference) → RecordsAre self.old objects l → RecordsAre self.new
+            (changed (λ x. same x.id o) (λ x. record x { told_weak = weak; told_strong = strong }) objects) l }
+        ensures names { self.new.names ≡ self.old.names }
+    {
+        self.objects.set_told(near, o, weak, strong);
     }
 
     /// The object goes, to which nothing refers.

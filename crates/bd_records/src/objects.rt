@@ -9,8 +9,8 @@ ghost use Rattle.bd_records.specs.Counting as spec;
 
 use crate::row::ObjectRow;
 use crate::slots::{
-    id_at, insert_row, insert_slot, remove_row, remove_slot, reserve_rows, reserve_slots, row_in,
-    set_row, slot_of, turn_row,
+    id_at, insert_row, insert_slot, remove_of_owner_in, remove_row, remove_slot, reserve_rows,
+    reserve_slots, row_in, set_row, slot_of, tell_row, turn_row,
 };
 use bd_space::{Identity, Reference};
 use slab::Slab;
@@ -93,6 +93,28 @@ impl Objects {
     {
         if let Some(k) = self.slot_near(r.object, near) {
             turn_row(&mut self.rows, k, r, more);
+        }
+    }
+
+    /// The object's owner was told whether the object is held, and whether strongly.
+    pub fn set_told(&mut self, near: usize, o: Identity, weak: bool, strong: bool)
+        ensures told { (x : declared.Identity) → row_at self.new x
+            ≡ (if same o x then option_map (spec.told weak strong) (row_at self.old x) else row_at self.old x) }
+        ensures uses { object_room self.old ≤ object_room self.new }
+    {
+        if let Some(k) = self.slot_near(o, near) {
+            tell_row(&mut self.rows, k, weak, strong);
+        }
+    }
+
+    /// The object's record counts none any more that the owner has to its own object.
+    pub fn remove_of_owner(&mut self, near: usize, o: Identity)
+        ensures disowned { (x : declared.Identity) → row_at self.new x
+            ≡ (if same o x then option_map spec.disowned (row_at self.old x) else row_at self.old x) }
+        ensures uses { object_room self.old ≤ object_room self.new }
+    {
+        if let Some(k) = self.slot_near(o, near) {
+            remove_of_owner_in(&mut self.rows, k);
         }
     }
 

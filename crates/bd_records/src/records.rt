@@ -1,6 +1,6 @@
 //! The table: objects, names and references, each in its record.
 
-ghost use Rattle.std.specs.Prelude.{ℕ, ◌≡◌, ◌==◌, ◌≤◌, ◌+◌, ◌&&◌, ◌++◌, ◌∷◌, [], false, not, filter, List, OnOk, OnErr};
+ghost use Rattle.std.specs.Prelude.{ℕ, ◌≡◌, ◌==◌, ◌≤◌, ◌+◌, ◌&&◌, ◌++◌, ◌∷◌, [], false, not, filter, map, List, OnOk, OnErr};
 ghost use Rattle.std.specs.List.{list_any};
 ghost use Rattle.bd_space.specs.{Words.{same, without_first}};
 ghost use Rattle.bd_space.specs.References as refer;
@@ -10,6 +10,7 @@ use crate::buffers::Buffers;
 use crate::names::Names;
 use crate::objects::Objects;
 use crate::turning::{Near, turn};
+use bd_chains::Items;
 use bd_space::{Holder, Identity, Origin, Reference};
 use std::alloc::{AllocError, Global};
 
@@ -29,6 +30,19 @@ pub struct Records {
 pub struct Hold {
     pub is_held: bool,
     pub is_strong: bool,
+}
+
+// The objects of these references come behind what is there.
+fn push_objects(
+    references: Items<'_, Reference>,
+    touched: &mut Vec<Identity>,
+) -> Result<(), AllocError>
+    ensures { OnOk result (touched.new.items ≡ touched.old.items ++ map (λ r. r.object) references.entry) }
+{
+    for r in references {
+        touched.push(r.object)?;
+    }
+    Ok(())
 }
 
 impl Records {
@@ -113,6 +127,18 @@ impl Records {
         }
     }
 
+    /// The same, strongly.
+    #[inline(always)]
+    pub fn refers_strongly(&self, p: u64, o: Identity, near: Near) -> bool
+        ensures { TellsOfOthers self.now p o result
+            (λ l. list_any (λ r. r.strong && same r.object o && refer.gives_name_to p r.holder) l) }
+    {
+        match self.names.row_near(p, o, near.number, near.process) {
+            Some(w) => w.asked.strong > 0 || w.carried.strong > 0,
+            None => false,
+        }
+    }
+
     /// One reference more, after the others, which has its place.
     pub fn push(&mut self, r: Reference, near: Near)
         requires { 1 ≤ reference_room self.old }
@@ -159,6 +185,23 @@ impl Records {
             };
             turn(&mut self.objects, &mut self.names, r, false, near);
         }
+    }
+
+    /// The references go that the owner has to its own object: what it is to acknowledge, and the context manager's.
+    pub fn remove_of_owner(&mut self, o: Identity, near: usize)
+        ensures stands { Makes self.old self.new (λ l. filter (λ r. not (same r.object o && refer.is_of_owner r.holder)) l) }
+        ensures names { KeepsNames self.old.names self.new.names }
+        ensures uses { reference_room self.old ≤ reference_room self.new }
+    {
+        self.objects.remove_of_owner(near, o);
+    }
+
+    /// The objects to which the buffer refers, put after what is there. Fails for want of memory alone.
+    pub fn referred(&self, b: u64, touched: &mut Vec<Identity>) -> Result<(), AllocError>
+        ensures { OnOk result (Tells self.now touched.new.items (λ l. touched.old.items ++ map (λ r. r.object) (filter
+            (λ r. refer.is_of_buffer b r.holder) l))) }
+    {
+        push_objects(self.held.of(b), touched)
     }
 
     // The first of the references goes that the buffer holds, if it holds any. Where the records are isn't known.

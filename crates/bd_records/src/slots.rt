@@ -8,6 +8,7 @@ ghost use Rattle.bd_space.specs.declared.step.Identity as declared;
 ghost use Rattle.bd_records.specs.Slots.{id_in, row_room};
 ghost use Rattle.bd_records.specs.Counting as spec;
 
+use crate::count::Count;
 use crate::row::ObjectRow;
 use bd_keys::insert_reserved;
 use bd_space::{Holder, Identity, Reference};
@@ -53,9 +54,35 @@ pub(crate) fn turn_row(rows: &mut Slab<ObjectRow>, k: usize, r: Reference, more:
 {
     if let Some(w) = rows.get_mut(k) {
         w.total = w.total.turned(more, r.strong);
-        if let Holder::Handshake = r.holder {
-            w.owed = w.owed.turned(more, r.strong);
+        match r.holder {
+            Holder::Handshake => w.owed = w.owed.turned(more, r.strong),
+            Holder::Manager => w.managed = w.managed.turned(more, r.strong),
+            _ => {}
         }
+    }
+}
+
+/// The object's owner was told that.
+#[inline(always)]
+pub(crate) fn tell_row(rows: &mut Slab<ObjectRow>, k: usize, weak: bool, strong: bool)
+    ensures set { (j : ℕ) → get rows.new j ≡ (if k == j then option_map (spec.told weak strong) (get rows.old j) else get rows.old j) }
+    ensures room { row_room rows.new ≡ row_room rows.old }
+{
+    if let Some(w) = rows.get_mut(k) {
+        w.object.told_weak = weak;
+        w.object.told_strong = strong;
+    }
+}
+
+/// The record counts none any more that the owner has to its own object.
+pub(crate) fn remove_of_owner_in(rows: &mut Slab<ObjectRow>, k: usize)
+    ensures set { (j : ℕ) → get rows.new j ≡ (if k == j then option_map spec.disowned (get rows.old j) else get rows.old j) }
+    ensures room { row_room rows.new ≡ row_room rows.old }
+{
+    if let Some(w) = rows.get_mut(k) {
+        w.total = w.total.less(w.owed).less(w.managed);
+        w.owed = Count::none();
+        w.managed = Count::none();
     }
 }
 

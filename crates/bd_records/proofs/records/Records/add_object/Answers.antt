@@ -8,8 +8,8 @@ pub returns-clause-stands : goal.returns-clause-stands
 returns-clause-stands c = λ objects l new h.
     let t = c.args.self.now in
     let x = c.args.x in
-    let row : ObjectRow = record { object = x; total = c.none.result; owed = c.none-2.result } in
-    let is : row ≡ record { object = x; total = no_count; owed = no_count } = (λ i. record { object = x; total = c.none.ensures i; owed = c.none-2.ensures i }) in
+    let row : ObjectRow = record { object = x; total = c.none.result; owed = c.none-2.result; managed = c.none-3.result } in
+    let is : row ≡ record { object = x; total = no_count; owed = no_count; managed = no_count } = (λ i. record { object = x; total = c.none.ensures i; owed = c.none-2.ensures i; managed = c.none-3.ensures i }) in
     record {
       objects_are = came_objects (row_at t.objects) (row_at c.insert.new.self) (name_at t.names) objects l h.counts h.objects_are h.owners x new row is c.insert.ensures.at;
       owners = came_owners (row_at t.objects) (row_at c.insert.new.self) (name_at t.names) objects l h.counts h.objects_are h.owners x new row is c.insert.ensures.at;
