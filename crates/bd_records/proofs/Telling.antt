@@ -8,6 +8,13 @@ use Rattle.bd_records.specs.declared.{row.ObjectRow.{ObjectRow}, row.NameRow.{Na
 use Rattle.bd_records.specs.Count.{of_strength}
 use Rattle.bd_records.specs.Counting.{told, total_of, owed_of, managed_of}
 use Rattle.bd_records.specs.{Counted.{CountsAre}, Records.{is_owner}}
+use Rattle.bd_keys.specs.Keys.{same_word}
+use Rattle.bd_keys.specs.Look.{look}
+use Rattle.bd_keys.proofs.Keys.{word_eq, word_self}
+use Rattle.bd_nodes.specs.Keys.{id_key, own_key}
+use Rattle.bd_nodes.proofs.Distinct.{changed_distinct}
+use Rattle.bd_nodes.proofs.Maps.{finds_hidden}
+use Rattle.bd_records.specs.{declared.owned.Owned.{Owned}, Owned.{OwnedAre}}
 use Rattle.bd_records.proofs.Coming.{object_of, both_same}
 
 module _ (weak strong : Bool) (o : Identity) where
@@ -43,6 +50,14 @@ module _ (weak strong : Bool) (o : Identity) where
       at : (a : Bool) → owned_in (retold xs) p y ≡ owned_in xs p y → owned_in (cond a (tell x) x ∷ retold xs) p y ≡ owned_in (x ∷ xs) p y
       at true more = ap (λ b. (same x.id y && (x.owner == p)) || b) more
       at false more = ap (λ b. (same x.id y && (x.owner == p)) || b) more
+
+  -- neither identities nor pointers change
+  pub told_owned : (t : Owned) (objects : List Object) → OwnedAre t objects → OwnedAre t (retold objects)
+  told_owned t objects h = record {
+    found = finds_hidden own_key same_word word_eq word_self (λ y. y.id) (look t.ptrs) objects (λ x. same x.id o) tell (λ y. refl) (λ y. refl) h.found;
+    ids = changed_distinct id_key same (λ x. same x.id o) tell (λ y. refl) objects h.ids;
+    ptrs = changed_distinct own_key same_word (λ x. same x.id o) tell (λ y. refl) objects h.ptrs;
+  }
 
   module _ (O O' : Identity → Option ObjectRow) (N : ℕ → Identity → Option NameRow) (objects : List Object) (l : List Reference) (h : CountsAre O N objects l)
       (are : (y : Identity) → object_in objects y ≡ option_map object_of (O y)) (owners : (p : ℕ) (y : Identity) → owned_in objects p y ≡ is_owner p (O y))

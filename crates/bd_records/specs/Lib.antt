@@ -6,5 +6,6 @@ pub mod Names
 pub mod Counting
 pub mod Counted
 pub mod Buffers
+pub mod Owned
 pub mod Records
 pub mod NamesAre

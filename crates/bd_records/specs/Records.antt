@@ -3,7 +3,8 @@ use Rattle.std.specs.Prelude.{ℕ, ◌≡◌, ◌≤◌, ◌-◌, ◌==◌, Bool
 use Rattle.bd_ways.specs.Words.{Identity, Object, Reference}
 use Rattle.bd_space.specs.References.{object_in, owned_in, gives_name_to}
 use Rattle.bd_records.specs.declared.{row.ObjectRow.{ObjectRow}, records.Records.{Records}}
-use Rattle.bd_records.specs.{Objects.{row_at}, Names.{name_at}, Counted.{CountsAre}, Buffers.{BuffersAre, buffer_room}}
+use Rattle.bd_keys.specs.Look.{word_room}
+use Rattle.bd_records.specs.{Objects.{row_at, object_room}, Owned.{OwnedAre}, Names.{name_at}, Counted.{CountsAre}, Buffers.{BuffersAre, buffer_room}}
 
 -- the record is of an object of the process
 abbrev pub is_owner : ℕ → Option ObjectRow → Bool
@@ -13,6 +14,7 @@ is_owner p (Some w) = w.object.owner == p
 pub record RecordsAre (t : Records) (objects : List Object) (l : List Reference) : Type 0 where
   pub objects_are : (o : Identity) → object_in objects o ≡ option_map (λ w. w.object) (row_at t.objects o)
   pub owners : (p : ℕ) (o : Identity) → owned_in objects p o ≡ is_owner p (row_at t.objects o)
+  pub own : OwnedAre t.owned objects
   pub counts : CountsAre (row_at t.objects) (name_at t.names) objects l
   pub held : BuffersAre t.held l
   -- no counter is above the number of those that ever came in
@@ -22,6 +24,10 @@ pub record RecordsAre (t : Records) (objects : List Object) (l : List Reference)
 pub record IsHomed (t : Records) (objects : List Object) (r : Reference) : Type 0 where
   pub here : is_some (row_at t.objects r.object) ≡ true
   pub named : (p : ℕ) → gives_name_to p r.holder ≡ true → owned_in objects p r.object ≡ false → is_some (name_at t.names p r.object) ≡ true
+
+-- how many objects more take no memory
+abbrev pub new_room : Records → ℕ
+new_room t = min (object_room t.objects) (word_room t.owned.ptrs)
 
 -- how many references more take no memory
 abbrev pub reference_room : Records → ℕ

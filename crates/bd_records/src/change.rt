@@ -1,6 +1,6 @@
 //! Objects that come and go.
 
-ghost use Rattle.std.specs.Prelude.{◌≡◌, ◌≤◌, ◌++◌, ◌∷◌, [], false, not, filter, None, List};
+ghost use Rattle.std.specs.Prelude.{◌≡◌, ◌≤◌, ◌++◌, ◌∷◌, [], false, not, filter, List, OnOk, OnErr};
 ghost use Rattle.bd_space.specs.Words.{same, changed};
 ghost use Rattle.bd_space.specs.References as refer;
 ghost use Rattle.bd_space.specs.declared.space.{Object.{Object}, Reference.{Reference}};
@@ -10,9 +10,35 @@ use crate::records::Records;
 use crate::row::ObjectRow;
 use bd_space as space;
 use bd_space::Identity;
+use std::alloc::AllocError;
 
 impl Records {
-    ghost use Rattle.bd_records.specs.{Objects.{object_room}, Records.{RecordsAre}};
+    ghost use Rattle.bd_nodes.specs.New.{IsNewIn};
+    ghost use Rattle.bd_records.specs.Records.{RecordsAre, Makes, new_room, reference_room};
+
+    /// Makes room for so many objects more. Changes nothing else.
+    pub fn reserve_objects(&mut self, more: usize) -> Result<(), AllocError>
+        ensures stands { Makes self.old self.new (λ l. l) }
+        ensures names { self.new.names ≡ self.old.names }
+        ensures uses { new_room self.old ≤ new_room self.new }
+        ensures references { reference_room self.new ≡ reference_room self.old }
+        ensures room { OnOk result (more ≤ new_room self.new) }
+        ensures grown { OnErr result (more ≤ new_room self.old → ⊥) }
+    {
+        self.objects.reserve(more)?;
+        self.owned.reserve(more)
+    }
+
+    /// The object that the process knows by this pointer as its own, if there is one.
+    pub fn own_with_ptr(&self, p: u64, ptr: u64) -> Option<space::Object>
+        ensures { (objects : List Object) (l : List Reference) → RecordsAre self.now objects l → result ≡ refer.own_in objects p ptr }
+    {
+        let o = self.owned.with_ptr(p, ptr)?;
+        match self.objects.row_near(o, 0) {
+            Some(w) => Some(w.object),
+            None => None,
+        }
+    }
 
     /// Whether the process owns the object.
     #[inline(always)]
@@ -25,13 +51,15 @@ impl Records {
         }
     }
 
-    /// Takes in an object that is new: no other has its identity. Answers where its record is.
+    /// Takes in an object that is new: no other has its identity, and its owner has none with its pointer. Answers where its
+    /// record is.
     pub fn add_object(&mut self, x: space::Object) -> usize
-        requires { 1 ≤ object_room self.old.objects }
-        ensures stands { (objects : List Object) (l : List Reference) → refer.object_in objects x.id ≡ None
+        requires { 1 ≤ new_room self.old }
+        ensures stands { (objects : List Object) (l : List Reference) → IsNewIn objects x
             → RecordsAre self.old objects l → RecordsAre self.new (objects ++ x ∷ []) l }
         ensures names { self.new.names ≡ self.old.names }
     {
+        self.owned.push(&x);
         self.objects.insert(ObjectRow {
             object: x,
             total: Count::none(),
@@ -55,6 +83,9 @@ impl Records {
             → RecordsAre self.old objects l → RecordsAre self.new (filter (λ x. not (same x.id o)) objects) l }
         ensures names { self.new.names ≡ self.old.names }
     {
-        self.objects.remove(o, near);
+        if let Some(w) = self.objects.row_near(o, near) {
+            self.owned.remove(&w.object);
+            self.objects.remove(o, near);
+        }
     }
 }

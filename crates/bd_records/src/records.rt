@@ -9,6 +9,7 @@ ghost use Rattle.bd_space.specs.declared.space.{Object.{Object}, Reference.{Refe
 use crate::buffers::Buffers;
 use crate::names::Names;
 use crate::objects::Objects;
+use crate::owned::Owned;
 use crate::turning::{Near, turn};
 use bd_chains::Items;
 use bd_space::{Holder, Identity, Origin, Reference};
@@ -19,6 +20,7 @@ use std::alloc::{AllocError, Global};
 pub struct Records {
     pub objects: Objects,
     pub names: Names,
+    pub(crate) owned: Owned,
     // Those of each buffer, in their order.
     pub(crate) held: Buffers,
     // How many ever came in. No counter is above it.
@@ -56,6 +58,7 @@ impl Records {
         Records {
             objects: Objects::new(alloc),
             names: Names::new(alloc),
+            owned: Owned::new(alloc),
             held: Buffers::new(alloc),
             made: 0,
         }

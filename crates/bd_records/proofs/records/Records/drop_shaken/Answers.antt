@@ -20,6 +20,7 @@ returns-then-is_shaken-clause-stands c = λ objects l h.
     record {
       objects_are = λ o. h.objects_are o ∙ sym (objects_same (row_at t.objects) (row_at c.turn.new.objects) false r c.turn.ensures.objects o);
       owners = λ p o. h.owners p o ∙ sym (owners_same (row_at t.objects) (row_at c.turn.new.objects) false r c.turn.ensures.objects p o);
+      own = h.own;
       counts = counts_less (row_at t.objects) (row_at c.turn.new.objects) (name_at t.names) (name_at c.turn.new.names) objects l m r h.counts
           (goes test r (shaking_alike c.args.o c.args.strong) l any) c.turn.ensures.objects c.turn.ensures.names;
       held = kept_buffers t.held t.held l m h.held (λ rs s. s) (kept_first test is_held (shaken_off c.args.o c.args.strong) l);

@@ -10,6 +10,7 @@ returns-in-Ok-clause-stands c = λ objects l own h.
     record {
       objects_are = h.objects_are;
       owners = h.owners;
+      own = h.own;
       counts = given_counts (row_at c.args.self.now.objects) t c.give_name.new.names c.args.p c.args.o objects l h.counts (number_of t c.args.p c.args.o) refl c.in-Ok.ensures.had c.in-Ok.ensures.rows;
       held = h.held;
       few = h.few;

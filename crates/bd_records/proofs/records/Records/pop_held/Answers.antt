@@ -19,6 +19,7 @@ returns-in-Some-clause-stands c = λ objects l h.
     record {
       objects_are = λ o. h.objects_are o ∙ sym (objects_same (row_at t.objects) (row_at c.turn.new.objects) false r c.turn.ensures.objects o);
       owners = λ p o. h.owners p o ∙ sym (owners_same (row_at t.objects) (row_at c.turn.new.objects) false r c.turn.ensures.objects p o);
+      own = h.own;
       counts = counts_less (row_at t.objects) (row_at c.turn.new.objects) (name_at t.names) (name_at c.turn.new.names) objects l m r h.counts
           (λ g. count_first test (on g) l r found) c.turn.ensures.objects c.turn.ensures.names;
       held = c.pop.ensures.stands l h.held;
@@ -44,6 +45,7 @@ returns-in-None-clause-stands c = λ objects l h.
     record {
       objects_are = h.objects_are;
       owners = h.owners;
+      own = h.own;
       counts = subst (CountsAre (row_at t.objects) (name_at t.names) objects) same h.counts;
       held = c.pop.ensures.stands l h.held;
       few = (let n = first_shorter test l in let a = h.few in omega (arith, n, a));

@@ -14,6 +14,7 @@ returns-clause-stands c = λ objects l homed h.
     record {
       objects_are = λ o. h.objects_are o ∙ sym (objects_same (row_at t.objects) (row_at c.turn.new.objects) true c.args.r c.turn.ensures.objects o);
       owners = λ p o. h.owners p o ∙ sym (owners_same (row_at t.objects) (row_at c.turn.new.objects) true c.args.r c.turn.ensures.objects p o);
+      own = h.own;
       counts = counts_more (row_at t.objects) (row_at c.turn.new.objects) (name_at t.names) (name_at c.turn.new.names) objects l (l ++ c.args.r ∷ []) c.args.r h.counts few
           (λ g. count_push (on g) l c.args.r) homed.here homed.named c.turn.ensures.objects c.turn.ensures.names same_eq;
       held = c.push.ensures.stands l h.held;
