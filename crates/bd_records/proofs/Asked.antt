@@ -1,4 +1,4 @@
--- A name that comes before the references that carry it.
+-- A name comes or goes while nothing gives it.
 use Rattle.std.proofs.Common.{◌≡◌, ◌≤◌, ℕ, ◌==◌, Bool, true, false, ◌&&◌, cond, List, [], ◌∷◌, Option, Some, None, is_some, refl, ap, sym, ◌∙◌, subst, arith}
 use Rattle.std.proofs.lemmas.Bool.{and_parts, eqb-true}
 use Rattle.std.specs.List.{count_by}
@@ -41,7 +41,7 @@ module _ (O : Identity → Option ObjectRow) (N M : ℕ → Identity → Option 
               let there : N q x ≡ None = subst (λ y. N q y ≡ None) (same_eq o x k.1) (subst (λ y. N y o ≡ None) (eqb-true p q k.0) none) in
               ap f (rows q x ∙ ap (λ b. cond b (Some (new_row o)) (N q x)) e) ∙ b ∙ sym a ∙ ap f (sym there)
 
-  -- a name goes, of the process's own object, or which counts nothing
+  -- a name goes that nothing gives, or that is of one's own object
   pub counts_unnamed : ((s : Bool) → owned_in objects p o ≡ false → (count_by (is_asking p o s) l ≡ 0) × (count_by (is_carrying p o s) l ≡ 0))
       → ((q : ℕ) (x : Identity) → M q x ≡ cond ((p == q) && same o x) None (N q x)) → CountsAre O M objects l
   counts_unnamed none rows = record {

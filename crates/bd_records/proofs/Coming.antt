@@ -14,7 +14,7 @@ use Rattle.bd_records.proofs.Asked.{none_count}
 abbrev pub object_of : ObjectRow → Object
 object_of w = w.object
 
--- two that are one with a third are one
+-- both are the same as a third
 pub both_same : (a b c : Identity) → same a c ≡ true → same b c ≡ true → same a b ≡ true
 both_same a b c h k = subst (λ y. same a y ≡ true) (sym (same_eq b c k)) h
 

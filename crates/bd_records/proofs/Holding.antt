@@ -1,4 +1,4 @@
--- What the records stand for, after a change.
+-- What is kept and what is told of objects and references.
 use Rattle.std.proofs.Common.{◌≡◌, ℕ, ◌-◌, ◌==◌, nat_lt, Bool, true, false, not, cond, ◌&&◌, ◌||◌, List, [], ◌∷◌, Option, Some, None, refl, sym, ap, ◌∙◌, arith, count_by}
 use Rattle.std.proofs.lemmas.Bool.{eqb-true}
 use Rattle.std.specs.{Prelude.{option_map}, List.{list_any}}
@@ -55,7 +55,7 @@ shaken_is (Target c q) e = absurd cc
 shaken_is Handshake e = refl
 shaken_is Manager e = absurd cc
 
--- the first that is alike goes, whichever it is
+-- those that pass are alike for each counter, so it is the same which one goes
 module _ (p : Reference → Bool) (r : Reference) (alike : (x : Reference) → p x ≡ true → (x.object ≡ r.object) × (x.strong ≡ r.strong) × (x.holder ≡ r.holder)) where
   pub goes : (l : List Reference) → list_any p l ≡ true → (g : Test) → count_by (on g) (without_first p l) ≡ count_by (on g) l - cond (on g r) 1 0
   goes l any g =

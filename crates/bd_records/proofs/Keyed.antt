@@ -1,4 +1,4 @@
--- Slots by identity, where the record of one changes, comes or goes: still each record is found by its identity, and each identity's slot leads to its record.
+-- A slab of records and a map of their slots: after a change each record is still found where the map says, and nothing else is there.
 use Rattle.std.proofs.Common.{◌≡◌, ℕ, ◌==◌, Bool, true, false, cond, Option, Some, None, refl, sym, ap, ◌∙◌, subst, arith, eqb-true}
 use Rattle.std.specs.Prelude.{option_map}
 use Rattle.bd_ways.specs.Words.{Identity, same}
@@ -14,7 +14,7 @@ Lead I S = (x : Identity) (j : ℕ) → S x ≡ Some j → I j ≡ Some x
 
 module _ {A : Type 0} (id : A → Identity) (R R' : ℕ → Option A) (S S' : Identity → Option ℕ) (o : Identity) (k : ℕ)
     (found : AreFound (λ j. option_map id (R j)) S) (leads : Lead (λ j. option_map id (R j)) S) where
-  -- of two slots that lead to the same record, and of two records in one slot
+  -- one slot can't be of two identities
   one : (x : Identity) (j : ℕ) → S x ≡ Some j → S o ≡ Some k → (k == j) ≡ true → x ≡ o
   one x j e d kj =
       let a : option_map id (R j) ≡ Some x = leads x j e in
@@ -85,7 +85,7 @@ module _ {A : Type 0} (id : A → Identity) (R R' : ℕ → Option A) (S S' : Id
             far true kj = grind (arith, one x j e at kj, ox)
             far false kj = grind (arith, slots x, e, goes j)
 
-  -- a record comes into a free slot, and the one that its identity had goes, which B tells by its slot
+  -- a record is put into a free slot; the old one of its identity, if there is one, stands where B says and goes
   module _ (w : A) (is : id w ≡ o) (B : ℕ → Bool) (was : (j : ℕ) → B j ≡ true → S o ≡ Some j) (all : (j : ℕ) → S o ≡ Some j → B j ≡ true)
       (fresh : R k ≡ None) (comes : (j : ℕ) → R' j ≡ cond (k == j) (Some w) (cond (B j) None (R j)))
       (slots : (x : Identity) → S' x ≡ cond (same o x) (Some k) (S x)) where

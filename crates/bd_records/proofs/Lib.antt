@@ -9,3 +9,4 @@ mod Asked
 mod Coming
 mod Telling
 mod Disowning
+mod Possessing

@@ -1,4 +1,4 @@
--- Names in their records, as they come and go.
+-- A space's names, when a record came or went.
 use Rattle.std.proofs.Common.{◌≡◌, ℕ, ◌<◌, ◌≤◌, ◌==◌, ◌&&◌, Bool, true, false, not, cond, List, [], ◌∷◌, ◌++◌, filter, Option, Some, None, is_some, refl, sym, ap, ◌∙◌, subst, arith, Result, Ok, Err, IfOk, OnOk, OnErr}
 use Rattle.std.specs.Prelude.{nat_lt}
 use Rattle.std.proofs.lemmas.Bool.Decides.{nat_tests}
@@ -19,7 +19,7 @@ use Rattle.bd_handles.proofs.Naming.{came_sound, came_object, came_number, gone_
 abbrev name : ℕ → ℕ → Identity → Name
 name p n o = record { process = p; number = n; object = o }
 
--- the least number that is free in the records is the one that a new name gets
+-- a number that is free while those below aren't is what the definition gives
 pub new_is : (t : Names) (l : List Name) → NamesAre t l → (zero : Bool) (p n : ℕ) → named_by t p n ≡ None → cond zero 0 1 ≤ n → ((m : ℕ) → cond zero 0 1 ≤ m → m < n → is_some (named_by t p m) ≡ true)
     → n ≡ new_number zero p l
 new_is t l h zero p n free from before =
@@ -83,7 +83,7 @@ some_shown : {A B : Type 0} (f : A → B) (v : Option A) → is_some (option_map
 some_shown f None = refl
 some_shown f (Some x) = refl
 
--- what is said of the number that is given, or of why there is none
+-- a new name's number, or that there is none, as the definition has it
 pub ok_given : {E : Type 0} (r : Result ℕ E) (t u : Names) (zero : Bool) (p : ℕ) (o : Identity) → number_of t p o ≡ None
     → IfOk r (λ n. IsFreeAt (cond zero 0 1) t.rows p n) → IfOk r (λ n. n ≤ 4294967294)
     → IfOk r (λ n. (q m : ℕ) → named_by u q m ≡ cond ((p == q) && (n == m)) (Some o) (named_by t q m))

@@ -1,5 +1,5 @@
 -- What an object's owner was told.
-use Rattle.std.proofs.Common.{◌≡◌, ℕ, ◌==◌, Bool, true, false, ◌&&◌, ◌||◌, cond, List, [], ◌∷◌, Option, Some, None, refl, ap, sym, ◌∙◌, subst, arith}
+use Rattle.std.proofs.Common.{◌≡◌, ℕ, ◌==◌, map, Bool, true, false, ◌&&◌, ◌||◌, cond, List, [], ◌∷◌, Option, Some, None, refl, ap, sym, ◌∙◌, subst, arith}
 use Rattle.std.specs.Prelude.{option_map}
 use Rattle.bd_ways.specs.Words.{Identity, Object, Reference, same, changed}
 use Rattle.bd_space.specs.References.{object_in, owned_in}
@@ -9,12 +9,11 @@ use Rattle.bd_records.specs.Count.{of_strength}
 use Rattle.bd_records.specs.Counting.{told, total_of, owed_of, managed_of}
 use Rattle.bd_records.specs.{Counted.{CountsAre}, Records.{is_owner}}
 use Rattle.bd_keys.specs.Keys.{same_word}
-use Rattle.bd_keys.specs.Look.{look}
 use Rattle.bd_keys.proofs.Keys.{word_eq, word_self}
 use Rattle.bd_nodes.specs.Keys.{id_key, own_key}
 use Rattle.bd_nodes.proofs.Distinct.{changed_distinct}
 use Rattle.bd_nodes.proofs.Maps.{finds_hidden}
-use Rattle.bd_records.specs.{declared.owned.Owned.{Owned}, Owned.{OwnedAre}}
+use Rattle.bd_records.specs.{declared.owned.Owned.{Owned}, Owned.{OwnedAre, possession, id_at}}
 use Rattle.bd_records.proofs.Coming.{object_of, both_same}
 
 module _ (weak strong : Bool) (o : Identity) where
@@ -51,12 +50,24 @@ module _ (weak strong : Bool) (o : Identity) where
       at true more = ap (λ b. (same x.id y && (x.owner == p)) || b) more
       at false more = ap (λ b. (same x.id y && (x.owner == p)) || b) more
 
+  possessions_told : (objects : List Object) → map possession (retold objects) ≡ map possession objects
+  possessions_told [] = refl
+  possessions_told (x ∷ xs) = at (same x.id o) (possessions_told xs)
+    where
+      at : (a : Bool) → map possession (retold xs) ≡ map possession xs → map possession (cond a (tell x) x ∷ retold xs) ≡ map possession (x ∷ xs)
+      at true more = ap (λ vs. possession x ∷ vs) more
+      at false more = ap (λ vs. possession x ∷ vs) more
+
   -- neither identities nor pointers change
   pub told_owned : (t : Owned) (objects : List Object) → OwnedAre t objects → OwnedAre t (retold objects)
   told_owned t objects h = record {
-    found = finds_hidden own_key same_word word_eq word_self (λ y. y.id) (look t.ptrs) objects (λ x. same x.id o) tell (λ y. refl) (λ y. refl) h.found;
+    found = finds_hidden own_key same_word word_eq word_self (λ y. y.id) (id_at t) objects (λ x. same x.id o) tell (λ y. refl) (λ y. refl) h.found;
     ids = changed_distinct id_key same (λ x. same x.id o) tell (λ y. refl) objects h.ids;
     ptrs = changed_distinct own_key same_word (λ x. same x.id o) tell (λ y. refl) objects h.ptrs;
+    rows = h.rows;
+    shows = h.shows;
+    are = h.are ∙ sym (possessions_told objects);
+    spots = h.spots;
   }
 
   module _ (O O' : Identity → Option ObjectRow) (N : ℕ → Identity → Option NameRow) (objects : List Object) (l : List Reference) (h : CountsAre O N objects l)

@@ -1,5 +1,5 @@
--- What the records of objects (O) and of names (N) count, of these references: to each object, those that its owner has yet to
--- acknowledge, the context manager's, and those by which a process names the object of another.
+-- Each counter in the records of objects (O) and of names (N) is a count of these references: all to an object, its owner's handshakes,
+-- the context manager's, and by name those that a process asked for and those that its buffers carry.
 use Rattle.std.specs.Prelude.{ℕ, ◌≡◌, ◌≤◌, Bool, false, List, Option}
 use Rattle.std.specs.List.{count_by}
 use Rattle.bd_ways.specs.Words.{Identity, Object, Reference}
@@ -14,6 +14,6 @@ pub record CountsAre (O : Identity → Option ObjectRow) (N : ℕ → Identity �
   pub managed : (o : Identity) (s : Bool) → of_strength s (managed_of (O o)) ≡ count_by (is_managing o s) l
   pub asked : (p : ℕ) (o : Identity) (s : Bool) → owned_in objects p o ≡ false → of_strength s (asked_of (N p o)) ≡ count_by (is_asking p o s) l
   pub carried : (p : ℕ) (o : Identity) (s : Bool) → owned_in objects p o ≡ false → of_strength s (carried_of (N p o)) ≡ count_by (is_carrying p o s) l
-  -- whoever owns the object: so that none is left when the last reference has gone
+  -- for the owner's own names too, so that nothing counts once no reference is left
   pub asked_few : (p : ℕ) (o : Identity) (s : Bool) → of_strength s (asked_of (N p o)) ≤ count_by (is_asking p o s) l
   pub carried_few : (p : ℕ) (o : Identity) (s : Bool) → of_strength s (carried_of (N p o)) ≤ count_by (is_carrying p o s) l

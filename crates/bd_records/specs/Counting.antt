@@ -1,4 +1,4 @@
--- What a reference that comes or goes changes of the records.
+-- Which counters change with a reference, and how.
 use Rattle.std.specs.Prelude.{ℕ, Bool, true, false, ◌==◌, Option, Some, None, ◌&&◌}
 use Rattle.bd_ways.specs.Words.{beq, Identity, Reference, Holder, Asked, Carried, Handshake, Manager, same}
 use Rattle.bd_records.specs.declared.{count.Count.{Count}, row.ObjectRow.{ObjectRow}, row.NameRow.{NameRow}}
@@ -7,7 +7,7 @@ use Rattle.bd_records.specs.Count.{no_count, one_more, less, only}
 abbrev pub one_less : Bool → Count → Count
 one_less strong c = less c (only strong 1)
 
--- f changes what the owner has yet to acknowledge, where the reference stands for that
+-- f is done to the counter of handshakes, if this holder is one
 abbrev pub owed_by : Holder → (Count → Count) → Count → Count
 owed_by Handshake f c = f c
 owed_by _ f c = c
@@ -68,7 +68,7 @@ told weak strong w = record {
 abbrev pub disowned : ObjectRow → ObjectRow
 disowned w = record { object = w.object; total = less (less w.total w.owed) w.managed; owed = no_count; managed = no_count }
 
--- what the records count: none where there is no record
+-- each counter of an object or a name, 0 where that has no record
 abbrev pub total_of : Option ObjectRow → Count
 total_of None = no_count
 total_of (Some w) = w.total

@@ -12,6 +12,6 @@ object_of r = r.object
 abbrev pub object_in : Numbered NameRow → ℕ → ℕ → Option Identity
 object_in rows p n = option_map object_of (value_at rows p n)
 
--- of a name that no reference carries yet
+-- a new name's, which counts nothing
 abbrev pub new_row : Identity → NameRow
 new_row o = record { object = o; asked = no_count; carried = no_count }

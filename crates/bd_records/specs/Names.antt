@@ -1,4 +1,4 @@
--- The records of names, by process and object.
+-- What is known of names: by process and object, and by process and number.
 use Rattle.std.specs.Prelude.{ℕ, Option, None, min}
 use Rattle.std.specs.HashMap.{spare}
 use Rattle.bd_ways.specs.Words.{Identity}
@@ -9,7 +9,7 @@ use Rattle.bd_records.specs.Slots.{on_slot}
 use Rattle.bd_handles.specs.Keys.{number_at}
 use Rattle.bd_records.specs.NameRows.{object_in}
 
--- p's number of o, and what n names for p
+-- by object: the number; by number: the object
 abbrev pub number_of : Names → ℕ → Identity → Option ℕ
 number_of t p o = number_at t.numbers p o
 
@@ -20,6 +20,6 @@ named_by t p n = object_in t.rows p n
 abbrev pub name_at : Names → ℕ → Identity → Option NameRow
 name_at t p o = on_slot None (value_at t.rows p) (number_of t p o)
 
--- so many names more of the process take no memory
+-- the room for more names of the process
 abbrev pub name_room : Names → ℕ → ℕ
 name_room t p = min (number_room t.rows p) (spare t.numbers)

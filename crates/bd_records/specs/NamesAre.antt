@@ -1,4 +1,4 @@
--- What the records of names stand for: the names of a space.
+-- When the records are those of a space's names.
 use Rattle.std.specs.Prelude.{ℕ, ◌≡◌, false, List}
 use Rattle.bd_ways.specs.Words.{Identity, Name}
 use Rattle.bd_space.specs.Names.{named_in, number_in, has_number_past_limit}

@@ -13,6 +13,6 @@ slot_at t o = get_by (same o) t.slots
 abbrev pub row_at : Objects → Identity → Option ObjectRow
 row_at t o = on_slot None (get t.rows) (slot_at t o)
 
--- so many objects more take no memory
+-- the room for more objects
 abbrev pub object_room : Objects → ℕ
 object_room t = min (row_room t.rows) (spare t.slots)

@@ -5,7 +5,7 @@ use Rattle.bd_ways.specs.Words.{Identity}
 use Rattle.bd_records.specs.declared.row.ObjectRow.{ObjectRow}
 pub use Rattle.bd_numbered.specs.Columns.{on_slot}
 
--- whose the record in a slot is
+-- the identity of the object whose record stands in a slot
 abbrev pub id_in : Slab ObjectRow → ℕ → Option Identity
 id_in rows k = option_map (λ r. r.object.id) (get rows k)
 

@@ -1,4 +1,4 @@
-//! What each buffer holds, in order.
+//! Buffers' references.
 
 ghost use Rattle.std.specs.Prelude.{ℕ, ◌≡◌, ◌==◌, ◌≤◌, ◌+◌, ◌++◌, ◌∷◌, [], Some, None, List, find, filter, length, OnOk, OnErr};
 ghost use Rattle.bd_keys.specs.Tables.{Makes, Tells};
@@ -10,13 +10,13 @@ use bd_chains::{Items, Lists, Numbering, Numbers};
 use bd_space::{Holder, Reference};
 use std::alloc::{AllocError, Global};
 
-/// The references of all buffers.
+/// For each buffer a list of the references that lie in it.
 #[derive(Drop)]
 pub struct Buffers {
     pub(crate) lists: Lists<Numbers<u64>, Reference>,
 }
 
-/// The buffer with which a reference ends.
+/// In which buffer a reference lies, if in any.
 fn buffer_of_holder(holder: Holder) -> Option<u64>
     ensures { result ≡ refer.buffer_of_holder holder }
 {
@@ -38,7 +38,7 @@ impl Buffers {
         }
     }
 
-    /// Makes room for so many references more. Changes nothing else, also on an `Err`.
+    /// Makes room for more references, and changes nothing besides, whatever it answers.
     pub fn reserve(&mut self, more: usize) -> Result<(), AllocError>
         ensures stands { Makes (BuffersAre self.old) (BuffersAre self.new) (λ l. l) }
         ensures uses { buffer_room self.old ≤ buffer_room self.new }
@@ -48,7 +48,7 @@ impl Buffers {
         self.lists.reserve(more)
     }
 
-    /// A reference comes in. Its buffer holds it, if it has one.
+    /// Takes in a reference, which comes last on its buffer's list if it lies in one.
     pub fn push(&mut self, r: Reference)
         requires { 1 ≤ buffer_room self.old }
         ensures stands { Makes (BuffersAre self.old) (BuffersAre self.new) (λ l. l ++ r ∷ []) }
@@ -59,14 +59,14 @@ impl Buffers {
         }
     }
 
-    /// The references that the buffer holds, in order.
+    /// Those that lie in the buffer, the oldest first.
     pub fn of(&self, b: u64) -> Items<'_, Reference>
         ensures { Tells (BuffersAre self.now) result (λ l. filter (λ r. refer.is_of_buffer b r.holder) l) }
     {
         self.lists.chains.items_on(self.lists.numbers.of(b))
     }
 
-    /// The first reference that the buffer holds goes, if it holds any. Answers it.
+    /// Takes the oldest reference out of the buffer, if one lies in it.
     pub fn pop(&mut self, b: u64) -> Option<Reference>
         ensures first { Tells (BuffersAre self.old) result (λ l. find (λ r. refer.is_of_buffer b r.holder) l) }
         ensures stands { Makes (BuffersAre self.old) (BuffersAre self.new) (λ l. without_first (λ r. refer.is_of_buffer b r.holder) l) }
@@ -76,7 +76,7 @@ impl Buffers {
         self.lists.chains.remove(slot)
     }
 
-    /// A buffer that holds nothing needs no list.
+    /// Gives the buffer's list back, if nothing is on it.
     pub fn close(&mut self, b: u64)
         ensures stands { Makes (BuffersAre self.old) (BuffersAre self.new) (λ l. l) }
         ensures uses { buffer_room self.old ≤ buffer_room self.new }
@@ -84,7 +84,7 @@ impl Buffers {
         self.lists.give_back(b);
     }
 
-    /// How many all buffers hold.
+    /// How many lie in buffers.
     pub fn len(&self) -> usize
         ensures { Tells (BuffersAre self.now) result (λ l. length (filter is_held l)) }
     {

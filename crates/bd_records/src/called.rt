@@ -16,8 +16,9 @@ use bd_space::Identity;
 impl Records {
     ghost use Rattle.bd_records.specs.{Records.{RecordsAre, reference_room}, NamesAre.{NamesAre}, Names.{name_at, name_room}};
 
-    /// The process has a name for the object, which is another's, afterwards: the one that it had, or else with the least number that it
-    /// doesn't use, from 0 or from 1.
+    /// The process has a name for the object, which is another's, afterwards: the one that it had, or else with the least
+    /// number that it
+    /// if it is new.
     pub fn give_name(
         &mut self,
         from_zero: bool,

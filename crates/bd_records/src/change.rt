@@ -1,6 +1,6 @@
 //! Objects that come and go.
 
-ghost use Rattle.std.specs.Prelude.{◌≡◌, ◌≤◌, ◌++◌, ◌∷◌, [], false, not, filter, List, OnOk, OnErr};
+ghost use Rattle.std.specs.Prelude.{◌≡◌, ◌==◌, ◌≤◌, ◌++◌, ◌∷◌, [], false, not, filter, map, List, OnOk, OnErr};
 ghost use Rattle.bd_space.specs.Words.{same, changed};
 ghost use Rattle.bd_space.specs.References as refer;
 ghost use Rattle.bd_space.specs.declared.space.{Object.{Object}, Reference.{Reference}};
@@ -49,6 +49,18 @@ impl Records {
             Some(w) => w.object.owner == p,
             None => false,
         }
+    }
+
+    /// Puts the objects that the process owns behind what is there, in the order in which they came. Fails for want of memory
+    /// alone.
+    pub fn owned_by(&self, p: u64, touched: &mut Vec<Identity>) -> Result<(), AllocError>
+        ensures pushed { OnOk result ((objects : List Object) (l : List Reference) → RecordsAre self.now objects l
+            → touched.new.items ≡ touched.old.items ++ map (λ x. x.id) (filter (λ x. x.owner == p) objects)) }
+        // Memory was asked for: it owns an object.
+        ensures grown { OnErr result ((objects : List Object) (l : List Reference) → RecordsAre self.now objects l
+            → filter (λ x. x.owner == p) objects ≡ [] → ⊥) }
+    {
+        self.owned.owned_by(p, touched)
     }
 
     /// Takes in an object that is new: no other has its identity, and its owner has none with its pointer. Answers where its

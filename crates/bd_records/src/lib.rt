@@ -1,4 +1,4 @@
-//! Objects, their names and what refers to them, as records that are found by index.
+//! One record for each object and one for each name, with counts of the references to it.
 #![tactic(auto)]
 
 mod buffers;

@@ -1,4 +1,4 @@
-//! The names that the records stand for.
+//! A space's names, by their records.
 
 ghost use Rattle.std.specs.Prelude.{ℕ, ◌≡◌, ◌==◌, ◌&&◌, ◌≤◌, ◌+◌, [], true, Some, None, is_some, if◌then◌else◌, not, filter, List, IfOk, OnOk, OnErr};
 ghost use Rattle.bd_keys.specs.Tables.{Makes, Tells};
@@ -30,15 +30,15 @@ pub fn named_object(names: &Names, p: u64, n: u32, near: usize) -> Option<Identi
     names.named(p, n, near)
 }
 
-/// The process's number of the object, if it names it: mostly this one.
+/// By which number the process names the object. The number that is passed is looked at first.
 pub fn name_number(names: &Names, p: u64, o: Identity, n: u32, near: usize) -> Option<u32>
     ensures { Tells (NamesAre names.now) result (λ l. names_of.number_in l p o) }
 {
     names.number_near(p, o, n, near)
 }
 
-/// The process has a name for the object afterwards: the one that it had, or else with the least number that it doesn't
-/// use, from 0 or from 1. Answers the number.
+/// Sees to it that the process has a name for the object, which gets the least free number from 0 or from 1 if it is new, and
+/// answers the name's number.
 pub fn give_name(
     names: &mut Names,
     from_zero: bool,

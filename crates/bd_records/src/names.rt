@@ -1,4 +1,4 @@
-//! The records of names, by process and number.
+//! Names' records, in each process's vector by number.
 
 ghost use Rattle.std.specs.Prelude.{ℕ, ◌≡◌, ◌==◌, ◌≤◌, ◌<◌, ◌+◌, ◌&&◌, true, Some, None, is_some, option_map, IfOk, IfSome, OnOk, OnErr, if◌then◌else◌};
 ghost use Rattle.bd_space.specs.Words.{same};
@@ -21,7 +21,7 @@ use std::collections::HashMap;
 #[derive(Drop)]
 pub struct Names {
     pub(crate) rows: Numbered<NameRow>,
-    // Each name's number, for who doesn't know.
+    // Numbers by process and object, asked where a guess was wrong.
     pub(crate) numbers: HashMap<ObjectKey, u32>,
     ghost found: { (p : ℕ) (o : declared.Identity) (n : ℕ) → object_in rows p n ≡ Some o → number_at numbers p o ≡ Some n },
     ghost leads: { (p : ℕ) (o : declared.Identity) (n : ℕ) → number_at numbers p o ≡ Some n → object_in rows p n ≡ Some o },
@@ -44,7 +44,7 @@ impl Names {
         }
     }
 
-    /// Makes room for so many names more of the process. Changes nothing else, also on an `Err`.
+    /// Makes room for more names of the process, and changes nothing besides, whatever it answers.
     pub fn reserve(&mut self, p: u64, more: usize, near: usize) -> Result<(), AllocError>
         ensures named { (q n : ℕ) → named_by self.new q n ≡ named_by self.old q n }
         ensures numbers { (q : ℕ) (o : declared.Identity) → number_of self.new q o ≡ number_of self.old q o }
@@ -69,7 +69,7 @@ impl Names {
         }
     }
 
-    /// The process's number of the object: this one, if that names it. Any number does.
+    /// By which number the process names the object. Looks under `n` first, whatever that is.
     #[inline(always)]
     pub fn number_near(&self, p: u64, o: Identity, n: u32, near: usize) -> Option<u32>
         ensures { result ≡ number_of self.now p o }
@@ -90,7 +90,7 @@ impl Names {
         self.rows.get(p, n, near)
     }
 
-    /// Writes the record of the process's name of that object, if it has one.
+    /// Puts this record in place of the one that the process's name of the same object has.
     #[inline(always)]
     pub fn set(&mut self, p: u64, n: u32, near: usize, row: NameRow)
         ensures named { (q m : ℕ) → named_by self.new q m ≡ named_by self.old q m }
@@ -104,7 +104,7 @@ impl Names {
         }
     }
 
-    /// The record of the process's name of that object counts one more reference, or one fewer, if there is one.
+    /// Counts the reference, or no longer, in the record of the process's name of its object.
     #[inline(always)]
     pub fn turn(&mut self, p: u64, n: u32, near: usize, r: Reference, more: bool)
         ensures turned { (q : ℕ) (o : declared.Identity) → name_at self.new q o
@@ -121,8 +121,8 @@ impl Names {
         }
     }
 
-    /// The process has a name for the object afterwards: the one that it had, or else with the least number that it
-    /// doesn't use, from 0 or from 1.
+    /// Sees to it that the process has a name for the object, which gets the least free number from 0 or from 1
+    /// if it is new.
     pub fn give(
         &mut self,
         from_zero: bool,
@@ -164,7 +164,7 @@ impl Names {
         Ok(n)
     }
 
-    /// The process's name of the object goes, if it has one. Takes no memory.
+    /// Takes out the process's name of the object, if there is one.
     pub fn remove(&mut self, p: u64, o: Identity, n: u32, near: usize)
         ensures named { (q m : ℕ) → named_by self.new q m
             ≡ (if (p == q) && is_at m (number_of self.old p o) then None else named_by self.old q m) }

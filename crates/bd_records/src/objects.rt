@@ -1,4 +1,4 @@
-//! The records of objects: each in a slot, which whoever knows it names.
+//! Objects' records, in slots.
 
 ghost use Rattle.std.specs.Prelude.{ℕ, ◌≡◌, ◌==◌, ◌≤◌, ◌<◌, ◌+◌, Some, None, option_map, IfSome, if◌then◌else◌, OnOk, OnErr};
 ghost use Rattle.std.specs.HashMap.{get_by};
@@ -21,7 +21,7 @@ use std::collections::HashMap;
 #[derive(Drop)]
 pub struct Objects {
     pub(crate) rows: Slab<ObjectRow>,
-    // Where each object's record is, for who doesn't know.
+    // Slots by identity, asked where a guess was wrong.
     pub(crate) slots: HashMap<Identity, usize>,
     ghost found: { (o : declared.Identity) (k : ℕ) → id_in rows k ≡ Some o → get_by (same o) slots ≡ Some k },
     ghost leads: { (o : declared.Identity) (k : ℕ) → get_by (same o) slots ≡ Some k → id_in rows k ≡ Some o },
@@ -40,7 +40,7 @@ impl Objects {
         }
     }
 
-    /// Makes room for so many objects more. Changes nothing else, also on an `Err`.
+    /// Makes room for more objects, and changes nothing besides, whatever it answers.
     pub fn reserve(&mut self, more: usize) -> Result<(), AllocError>
         ensures kept { (o : declared.Identity) → row_at self.new o ≡ row_at self.old o }
         ensures uses { object_room self.old ≤ object_room self.new }
@@ -52,7 +52,7 @@ impl Objects {
         reserve_slots(&mut self.slots, more)
     }
 
-    /// Where the object's record is, looked for in this slot first. Any number does.
+    /// In which slot the object's record is. Looks into the slot `near` first, whatever that is.
     #[inline(always)]
     pub fn slot_near(&self, o: Identity, near: usize) -> Option<usize>
         ensures { result ≡ slot_at self.now o }
@@ -84,7 +84,7 @@ impl Objects {
         }
     }
 
-    /// The object's record counts one more reference, or one fewer, if it has one.
+    /// Counts the reference, or no longer, in the record of its object.
     #[inline(always)]
     pub fn turn(&mut self, near: usize, r: Reference, more: bool)
         ensures turned { (x : declared.Identity) → row_at self.new x
@@ -118,7 +118,7 @@ impl Objects {
         }
     }
 
-    /// A record more, in place of the one that its object has, if there is one. Answers its slot.
+    /// Takes in an object's record, in place of one that it had, and answers its slot.
     pub fn insert(&mut self, row: ObjectRow) -> usize
         requires { 1 ≤ object_room self.old }
         ensures at { (x : declared.Identity) → row_at self.new x

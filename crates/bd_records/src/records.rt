@@ -1,4 +1,4 @@
-//! The table: objects, names and references, each in its record.
+//! Objects, names and references together.
 
 ghost use Rattle.std.specs.Prelude.{ℕ, ◌≡◌, ◌==◌, ◌≤◌, ◌+◌, ◌&&◌, ◌++◌, ◌∷◌, [], false, not, filter, map, List, OnOk, OnErr};
 ghost use Rattle.std.specs.List.{list_any};
@@ -15,15 +15,15 @@ use bd_chains::Items;
 use bd_space::{Holder, Identity, Origin, Reference};
 use std::alloc::{AllocError, Global};
 
-/// Objects, the names that processes have for them, and the references to them.
+/// A space's objects, names and references.
 #[derive(Drop)]
 pub struct Records {
     pub objects: Objects,
     pub names: Names,
     pub(crate) owned: Owned,
-    // Those of each buffer, in their order.
+    // Those that lie in buffers.
     pub(crate) held: Buffers,
-    // How many ever came in. No counter is above it.
+    // So many references came in since the beginning: it bounds each counter.
     pub(crate) made: u64,
 }
 
@@ -64,12 +64,12 @@ impl Records {
         }
     }
 
-    /// Makes room for so many references more. Changes nothing else, also on an `Err`.
+    /// Makes room for more references, and changes nothing besides, whatever it answers.
     pub fn reserve(&mut self, more: usize) -> Result<(), AllocError>
         ensures stands { Makes self.old self.new (λ l. l) }
         ensures uses { reference_room self.old ≤ reference_room self.new }
         ensures room { OnOk result (more ≤ reference_room self.new) }
-        // Memory was asked for, or more would come in than `made` can count: there was no room.
+        // Refused where there was no room: memory, or numbers for `made`.
         ensures grown { OnErr result (more ≤ reference_room self.old → ⊥) }
     {
         if more as u64 > u64::MAX - self.made {
@@ -96,7 +96,7 @@ impl Records {
         }
     }
 
-    /// Whether the process, which doesn't own the object, asked for it in this strength.
+    /// Whether the process asked for the object in this strength. Of an object that isn't its own.
     #[inline(always)]
     pub fn is_asked(&self, p: u64, o: Identity, strong: bool, near: Near) -> bool
         ensures { TellsOfOthers self.now p o result (λ l. list_any (refer.is_asking p o strong) l) }
@@ -107,7 +107,7 @@ impl Records {
         }
     }
 
-    /// Whether the owner is to acknowledge the object in this strength.
+    /// Whether an acknowledgement of this strength is outstanding.
     #[inline(always)]
     pub fn is_shaken(&self, o: Identity, strong: bool, near: usize) -> bool
         ensures { Tells self.now result (λ l. list_any (refer.is_shaking o strong) l) }
@@ -118,7 +118,8 @@ impl Records {
         }
     }
 
-    /// Whether the process, which doesn't own the object, refers to it: it asked for it, or a buffer in its window carries it.
+    /// Whether a reference gives the process its name of the object: it asked, or a buffer in its window carries it. Of an
+    /// object that isn't its own.
     #[inline(always)]
     pub fn refers(&self, p: u64, o: Identity, near: Near) -> bool
         ensures { TellsOfOthers self.now p o result
@@ -142,7 +143,7 @@ impl Records {
         }
     }
 
-    /// One reference more, after the others, which has its place.
+    /// Takes in a reference, of which there is a record for each counter (`IsHomed`).
     pub fn push(&mut self, r: Reference, near: Near)
         requires { 1 ≤ reference_room self.old }
         ensures stands { (objects : List Object) (l : List Reference) → IsHomed self.old objects r
@@ -155,7 +156,7 @@ impl Records {
         self.made = self.made.saturating_add(1);
     }
 
-    /// The least reference of this strength goes that the process, which doesn't own the object, asked for, if there is one.
+    /// Drops the oldest reference of this strength that the process asked for, if there is one. Of an object that isn't its own.
     pub fn drop_asked(&mut self, p: u64, o: Identity, strong: bool, near: Near)
         ensures stands { (objects : List Object) (l : List Reference) → refer.owned_in objects p o ≡ false
             → RecordsAre self.old objects l → RecordsAre self.new objects (without_first (refer.is_asking p o strong) l) }
@@ -173,7 +174,7 @@ impl Records {
         }
     }
 
-    /// The least reference of this strength goes that stands for an acknowledgement, if there is one.
+    /// Drops the oldest reference of this strength that stands for an acknowledgement, if there is one.
     pub fn drop_shaken(&mut self, o: Identity, strong: bool, near: Near)
         ensures stands { Makes self.old self.new (λ l. without_first (refer.is_shaking o strong) l) }
         ensures names { KeepsNames self.old.names self.new.names }
@@ -207,7 +208,7 @@ impl Records {
         push_objects(self.held.of(b), touched)
     }
 
-    // The first of the references goes that the buffer holds, if it holds any. Where the records are isn't known.
+    // Drops the oldest reference in the buffer, if one lies in it. Its records are found by their keys.
     fn pop_held(&mut self, b: u64) -> bool
         ensures stands { Makes self.old self.new (λ l. without_first (λ r. refer.is_of_buffer b r.holder) l) }
         ensures any { Tells self.old result (λ l. list_any (λ r. refer.is_of_buffer b r.holder) l) }
@@ -228,7 +229,7 @@ impl Records {
         }
     }
 
-    // One after the other goes, until the buffer holds none.
+    // Drops one after the other, until none lies in the buffer.
     fn remove_each(&mut self, b: u64)
         ensures stands { Makes self.old self.new (λ l. filter (λ r. not (refer.is_of_buffer b r.holder)) l) }
         ensures names { KeepsNames self.old.names self.new.names }
@@ -241,7 +242,7 @@ impl Records {
         }
     }
 
-    /// The references go that the buffer held.
+    /// Drops all references that lie in the buffer.
     pub fn remove_buffer(&mut self, b: u64)
         ensures stands { Makes self.old self.new (λ l. filter (λ r. not (refer.is_of_buffer b r.holder)) l) }
         ensures names { KeepsNames self.old.names self.new.names }

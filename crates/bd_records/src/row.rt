@@ -13,8 +13,8 @@ pub struct ObjectRow {
     pub managed: Count,
 }
 
-/// A process's name of an object, and how many references carry it: those that the process asked for, and those of buffers
-/// in its window.
+/// What a process knows an object by, with counts of what gives it this name: its own asking, and buffers in its window
+/// that carry the object.
 #[derive(Clone, Copy)]
 pub struct NameRow {
     pub object: Identity,

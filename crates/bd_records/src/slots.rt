@@ -1,4 +1,4 @@
-//! The records in their slots, and the slots by identity.
+//! Objects' records by slot, and their slots by identity.
 
 ghost use Rattle.std.specs.Prelude.{ℕ, ◌≡◌, ◌==◌, ◌≤◌, ◌<◌, ◌+◌, ◌-◌, Some, None, option_map, if◌then◌else◌, OnOk, OnErr};
 ghost use Rattle.std.specs.HashMap.{get_by, spare};
@@ -132,7 +132,7 @@ pub(crate) fn reserve_slots(
     slots.reserve(more)
 }
 
-/// The record is in this slot from now on. Answers where the one was that it stands instead of.
+/// Notes the slot of the object's record, and answers the slot that was noted before.
 pub(crate) fn insert_slot(
     slots: &mut HashMap<Identity, usize>,
     o: Identity,

@@ -1,4 +1,4 @@
-//! References that come and go, in the records that count them.
+//! Counting a reference that came or went.
 
 ghost use Rattle.std.specs.Prelude.{ℕ, ◌≡◌, ◌==◌, ◌≤◌, ◌&&◌, Some, None, option_map, if◌then◌else◌};
 ghost use Rattle.bd_space.specs.{Words.{same, is_some_and}, References.{gives_name_to}};
@@ -11,8 +11,8 @@ use crate::names::Names;
 use crate::objects::Objects;
 use bd_space::{Holder, Reference};
 
-/// Where the records are that count a reference, as far as is known: of the object, and of the name, by its number and its
-/// process. Any numbers do.
+/// Guesses where the records stand that count a reference: the object's slot, the name's number, its process's slot. The
+/// same records are found, whatever these are.
 #[derive(Clone, Copy)]
 pub struct Near {
     pub object: usize,
@@ -20,7 +20,7 @@ pub struct Near {
     pub process: usize,
 }
 
-/// The process that names the object by it.
+/// Which process has a name for its sake.
 #[inline(always)]
 pub(crate) fn user_of(holder: Holder) -> Option<u64>
     ensures { (p : ℕ) → gives_name_to p holder ≡ is_some_and result (λ q. q == p) }
@@ -53,7 +53,7 @@ fn turn_name(names: &mut Names, p: u64, r: Reference, more: bool, n: u32, near: 
     names.turn(p, n, near, r, more);
 }
 
-// The record counts it of the name that it carries, if it carries one.
+// The record of the name that the reference gives, if it gives one, counts it or no longer.
 #[inline(always)]
 fn turn_user(names: &mut Names, r: Reference, more: bool, near: Near)
     ensures turned { (q : ℕ) (x : declared.Identity) → name_at names.new q x
@@ -67,7 +67,7 @@ fn turn_user(names: &mut Names, r: Reference, more: bool, near: Near)
     }
 }
 
-/// All records count it that are to.
+/// Counts the reference, or no longer, in the records of its object and of the name that it gives.
 pub(crate) fn turn(objects: &mut Objects, names: &mut Names, r: Reference, more: bool, near: Near)
     ensures objects { (x : declared.Identity) → row_at objects.new x
         ≡ (if same r.object x then option_map (spec.turned more r) (row_at objects.old x) else row_at objects.old x) }
