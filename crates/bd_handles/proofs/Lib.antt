@@ -1,6 +1,6 @@
 pub mod Freeing
 pub mod FreeNumbers
-mod Given
+pub mod Given
 mod Leaving
 pub mod Limits
 mod Lookups

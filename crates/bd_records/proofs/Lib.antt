@@ -10,3 +10,4 @@ mod Coming
 mod Telling
 mod Disowning
 mod Possessing
+mod Given

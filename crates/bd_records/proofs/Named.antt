@@ -1,8 +1,8 @@
 -- A space's names, when a record came or went.
-use Rattle.std.proofs.Common.{◌≡◌, ℕ, ◌<◌, ◌≤◌, ◌==◌, ◌&&◌, Bool, true, false, not, cond, List, [], ◌∷◌, ◌++◌, filter, Option, Some, None, is_some, refl, sym, ap, ◌∙◌, subst, arith, Result, Ok, Err, IfOk, OnOk, OnErr}
-use Rattle.std.specs.Prelude.{nat_lt}
+use Rattle.std.proofs.Common.{◌≡◌, ℕ, ◌<◌, ◌≤◌, ◌==◌, ◌&&◌, Bool, true, false, not, cond, List, [], ◌∷◌, ◌++◌, filter, Option, Some, None, is_some, refl, sym, ap, ◌∙◌, subst, arith, Result, Ok, Err, IfOk, OnOk, OnErr, IfSome, ◌^◌, inl, inr}
+use Rattle.std.specs.Prelude.{nat_lt, IfNone}
 use Rattle.std.proofs.lemmas.Bool.Decides.{nat_tests}
-use Rattle.std.proofs.lemmas.Bool.{and_parts, eqb-true}
+use Rattle.std.proofs.lemmas.Bool.{and_parts, eqb-true, cases_lt}
 use Rattle.bd_space.proofs.Identities.{same_eq}
 use Rattle.bd_ways.specs.Words.{Identity, Name, same}
 use Rattle.bd_space.specs.Names.{named_in, number_in}
@@ -12,8 +12,8 @@ use Rattle.bd_chains.specs.Chain.{is_at}
 use Rattle.bd_keys.specs.Tables.{Makes}
 use Rattle.std.specs.Prelude.{option_map}
 use Rattle.bd_records.specs.NameRows.{object_of}
-use Rattle.bd_handles.specs.{Numbers.{new_number, with_number, IsFull}, Sound.{has_object}}
-use Rattle.bd_handles.proofs.{Limits.{fits_push, fits_filter}, FreeNumbers.{free_first, free_past}, Freeing.{used_named, free_unnamed}}
+use Rattle.bd_handles.specs.{Numbers.{new_number, with_number, IsFull, IsNextNumber}, Sound.{has_object}}
+use Rattle.bd_handles.proofs.{Limits.{fits_push, fits_filter, past_unnamed}, FreeNumbers.{free_first, free_past}, Freeing.{used_named, free_unnamed}}
 use Rattle.bd_handles.proofs.Naming.{came_sound, came_object, came_number, gone_sound, gone_object, gone_number, none_gone}
 
 abbrev name : ℕ → ℕ → Identity → Name
@@ -118,3 +118,13 @@ gone t u p o None is objects numbers l h = none_taken t u l p o h is (λ q m. gr
 
 pub names_kept : (t u : Names) → ((q m : ℕ) → named_by u q m ≡ named_by t q m) → ((q : ℕ) (x : Identity) → number_of u q x ≡ number_of t q x) → KeepsNames t u
 names_kept t u objects numbers l h = record { sound = h.sound; objects_are = λ q m. h.objects_are q m ∙ sym (objects q m); numbers_are = λ q x. h.numbers_are q x ∙ sym (numbers q x); fits = h.fits }
+
+-- the next number in the records is the next that names something
+pub next_is : (t : Names) (l : List Name) → NamesAre t l → (p from : ℕ) (r : Option ℕ)
+    → IfNone r ((m : ℕ) → from ≤ m → m < 2 ^ 32 → named_by t p m ≡ None) → IfSome r (λ n. from ≤ n) → IfSome r (λ n. is_some (named_by t p n) ≡ true)
+    → IfSome r (λ n. (m : ℕ) → from ≤ m → m < n → named_by t p m ≡ None) → IsNextNumber l p from r
+next_is t l h p from None none le there before = λ n le. elim (cases_lt n 4294967296) [
+  | inl lt ↦ h.objects_are p n ∙ none n le (omega (arith, lt))
+  | inr ge ↦ past_unnamed l h.fits p n (omega (arith, ge))
+]
+next_is t l h p from (Some n) none le there before = (le, ap is_some (h.objects_are p n) ∙ there, λ m le lt. h.objects_are p m ∙ before m le lt)

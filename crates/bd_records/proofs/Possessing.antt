@@ -149,6 +149,9 @@ spot_is t objects h x has (Some s) e =
     let k : Some s.id ≡ Some x.id = sym (ap (option_map (λ (s : Spot). s.id)) e) ∙ f in
     (s, refl, cc)
 
+clash : {b : Bool} → b ≡ true → b ≡ false → ⊥
+clash a b = cc
+
 -- another's spot is another
 pub spots_apart : (t : Owned) (objects : List Object) (h : OwnedAre t objects) (x : Object) → object_in objects x.id ≡ Some x → (s : Spot) → look t.ptrs (own_key x) ≡ Some s → s.id ≡ x.id
     → (k : WordKey) (v : Spot) → look t.ptrs k ≡ Some v → same_word (own_key x) k ≡ false → (s.at == v.at) ≡ false
@@ -163,7 +166,7 @@ spots_apart t objects h x has s e is k v f off = at (s.at == v.at) refl
         let same_id : v.id ≡ x.id = sym (id_same (record { owner = x.owner; id = s.id }) (record { owner = k.process; id = v.id }) both) ∙ is in
         let found : option_map (λ (y : Object). y.id) (find (λ y. same_word (own_key y) k) objects) ≡ Some x.id = sym (h.found k) ∙ ap (option_map (λ (s : Spot). s.id)) f ∙ ap Some same_id in
         let there : find (λ y. same_word (own_key y) k) objects ≡ Some x = sym (by_own objects k x.id h.ids found) ∙ has in
-        absurd (let p : same_word (own_key x) k ≡ true = found_passes (λ y. same_word (own_key y) k) objects x there in let q : true ≡ false = sym p ∙ off in cc)
+        absurd (clash (found_passes (λ y. same_word (own_key y) k) objects x there) off)
       where
         id_same : (a b : Possession) → Some a ≡ Some b → a.id ≡ b.id
         id_same a b e = let q : a ≡ b = cc in ap id_of q

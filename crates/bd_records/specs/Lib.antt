@@ -9,3 +9,4 @@ pub mod Buffers
 pub mod Owned
 pub mod Records
 pub mod NamesAre
+pub mod Since

@@ -17,7 +17,7 @@ mod slots;
 mod turning;
 
 pub use count::Count;
-pub use listed::{give_name, name_number, named_object, new_names, remove_name};
+pub use listed::{give_name, name_number, named_object, new_names, next_number, remove_name};
 pub use names::Names;
 pub use objects::Objects;
 pub use owned::Owned;

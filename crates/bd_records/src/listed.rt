@@ -9,7 +9,7 @@ ghost use Rattle.bd_space.specs.declared.step.Identity as object;
 ghost use Rattle.bd_records.specs.NameRows.{new_row};
 ghost use Rattle.bd_handles.specs.Sound.{has_object};
 ghost use Rattle.bd_records.specs.{Names.{name_room, number_of, name_at}, NamesAre.{NamesAre}};
-ghost use Rattle.bd_handles.specs.Numbers.{with_number, IsFull};
+ghost use Rattle.bd_handles.specs.Numbers.{with_number, IsFull, IsNextNumber};
 
 use crate::names::Names;
 use bd_handles::NumbersFull;
@@ -35,6 +35,13 @@ pub fn name_number(names: &Names, p: u64, o: Identity, n: u32, near: usize) -> O
     ensures { Tells (NamesAre names.now) result (λ l. names_of.number_in l p o) }
 {
     names.number_near(p, o, n, near)
+}
+
+/// The least number from this one on that names something for the process. Looks at each number up to it.
+pub fn next_number(names: &Names, p: u64, from: u32, near: usize) -> Option<u32>
+    ensures { (l : List declared.Name) → NamesAre names.now l → IsNextNumber l p from result }
+{
+    names.next_number(p, from, near)
 }
 
 /// Sees to it that the process has a name for the object, which gets the least free number from 0 or from 1 if it is new, and

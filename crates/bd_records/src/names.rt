@@ -1,6 +1,6 @@
 //! Names' records, in each process's vector by number.
 
-ghost use Rattle.std.specs.Prelude.{ℕ, ◌≡◌, ◌==◌, ◌≤◌, ◌<◌, ◌+◌, ◌&&◌, true, Some, None, is_some, option_map, IfOk, IfSome, OnOk, OnErr, if◌then◌else◌};
+ghost use Rattle.std.specs.Prelude.{ℕ, ◌≡◌, ◌==◌, ◌≤◌, ◌<◌, ◌+◌, ◌&&◌, true, Some, None, is_some, option_map, ◌^◌, IfOk, IfSome, IfNone, OnOk, OnErr, if◌then◌else◌};
 ghost use Rattle.bd_space.specs.Words.{same};
 ghost use Rattle.bd_space.specs.declared.step.Identity as declared;
 ghost use Rattle.bd_handles.specs.Keys.{number_at};
@@ -78,6 +78,16 @@ impl Names {
             return Some(n);
         }
         number_of(&self.numbers, p, o)
+    }
+
+    /// The least number from this one on that names something for the process. Looks at each number up to it.
+    pub fn next_number(&self, p: u64, from: u32, near: usize) -> Option<u32>
+        ensures none { IfNone result ((m : ℕ) → from ≤ m → m < 2 ^ 32 → named_by self.now p m ≡ None) }
+        ensures from { IfSome result (λ n. from ≤ n) }
+        ensures there { IfSome result (λ n. is_some (named_by self.now p n) ≡ true) }
+        ensures before { IfSome result (λ n. (m : ℕ) → from ≤ m → m < n → named_by self.now p m ≡ None) }
+    {
+        self.rows.next(p, from, near)
     }
 
     /// The record of the process's name of the object.

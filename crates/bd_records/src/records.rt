@@ -12,7 +12,7 @@ use crate::objects::Objects;
 use crate::owned::Owned;
 use crate::turning::{Near, turn};
 use bd_chains::Items;
-use bd_space::{Holder, Identity, Origin, Reference};
+use bd_space::{Holder, Identity, Name, Origin, Reference};
 use std::alloc::{AllocError, Global};
 
 /// A space's objects, names and references.
@@ -20,6 +20,8 @@ use std::alloc::{AllocError, Global};
 pub struct Records {
     pub objects: Objects,
     pub names: Names,
+    // The names that can be taken back.
+    pub(crate) given: Vec<Name>,
     pub(crate) owned: Owned,
     // Those that lie in buffers.
     pub(crate) held: Buffers,
@@ -58,6 +60,7 @@ impl Records {
         Records {
             objects: Objects::new(alloc),
             names: Names::new(alloc),
+            given: Vec::new(alloc),
             owned: Owned::new(alloc),
             held: Buffers::new(alloc),
             made: 0,
