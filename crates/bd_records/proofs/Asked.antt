@@ -25,9 +25,9 @@ module _ (O : Identity → Option ObjectRow) (N M : ℕ → Identity → Option 
     totals = h.totals;
     owed = h.owed;
     managed = h.managed;
-    asked = λ q x s free. ap (of_strength s) (blank asked_of refl refl q x) ∙ h.asked q x s free;
+    asked = λ q x s. ap (of_strength s) (blank asked_of refl refl q x) ∙ h.asked q x s;
+    unasked = h.unasked;
     carried = λ q x s free. ap (of_strength s) (blank carried_of refl refl q x) ∙ h.carried q x s free;
-    asked_few = λ q x s. subst (λ n. n ≤ count_by (is_asking q x s) l) (sym (ap (of_strength s) (blank asked_of refl refl q x))) (h.asked_few q x s);
     carried_few = λ q x s. subst (λ n. n ≤ count_by (is_carrying q x s) l) (sym (ap (of_strength s) (blank carried_of refl refl q x))) (h.carried_few q x s);
   }
     where
@@ -48,9 +48,9 @@ module _ (O : Identity → Option ObjectRow) (N M : ℕ → Identity → Option 
     totals = h.totals;
     owed = h.owed;
     managed = h.managed;
-    asked = λ q x s free. at_asked q x s free ((p == q) && same o x) refl;
+    asked = λ q x s. at_asked q x s ((p == q) && same o x) refl;
+    unasked = h.unasked;
     carried = λ q x s free. at_carried q x s free ((p == q) && same o x) refl;
-    asked_few = λ q x s. few asked_of refl q x s _ ((p == q) && same o x) refl (h.asked_few q x s);
     carried_few = λ q x s. few carried_of refl q x s _ ((p == q) && same o x) refl (h.carried_few q x s);
   }
     where
@@ -63,15 +63,16 @@ module _ (O : Identity → Option ObjectRow) (N M : ℕ → Identity → Option 
       zero_count true = refl
       zero_count false = refl
 
-      at_asked : (q : ℕ) (x : Identity) (s : Bool) → owned_in objects q x ≡ false → (d : Bool) → ((p == q) && same o x) ≡ d → of_strength s (asked_of (M q x)) ≡ count_by (is_asking q x s) l
-      at_asked q x s free false e = ap (λ w. of_strength s (asked_of w)) (rows q x ∙ ap (λ b. cond b None (N q x)) e) ∙ h.asked q x s free
-      at_asked q x s free true e =
+      none_asked : (s b : Bool) → owned_in objects p o ≡ b → count_by (is_asking p o s) l ≡ 0
+      none_asked s true e = h.unasked p o s e
+      none_asked s false e = (none s e).0
+
+      at_asked : (q : ℕ) (x : Identity) (s d : Bool) → ((p == q) && same o x) ≡ d → of_strength s (asked_of (M q x)) ≡ count_by (is_asking q x s) l
+      at_asked q x s false e = ap (λ w. of_strength s (asked_of w)) (rows q x ∙ ap (λ b. cond b None (N q x)) e) ∙ h.asked q x s
+      at_asked q x s true e =
           let k = and_parts (p == q) (same o x) e in
-          let pq = eqb-true p q k.0 in
-          let ox = same_eq o x k.1 in
-          let own : owned_in objects p o ≡ false = subst (λ y. owned_in objects y o ≡ false) (sym pq) (subst (λ y. owned_in objects q y ≡ false) (sym ox) free) in
           ap (λ w. of_strength s (asked_of w)) (rows q x ∙ ap (λ b. cond b None (N q x)) e) ∙ zero_count s
-          ∙ subst (λ y. 0 ≡ count_by (is_asking q y s) l) ox (subst (λ y. 0 ≡ count_by (is_asking y o s) l) pq (sym (none s own).0))
+          ∙ subst (λ y. 0 ≡ count_by (is_asking q y s) l) (same_eq o x k.1) (subst (λ y. 0 ≡ count_by (is_asking y o s) l) (eqb-true p q k.0) (sym (none_asked s (owned_in objects p o) refl)))
 
       at_carried : (q : ℕ) (x : Identity) (s : Bool) → owned_in objects q x ≡ false → (d : Bool) → ((p == q) && same o x) ≡ d → of_strength s (carried_of (M q x)) ≡ count_by (is_carrying q x s) l
       at_carried q x s free false e = ap (λ w. of_strength s (carried_of w)) (rows q x ∙ ap (λ b. cond b None (N q x)) e) ∙ h.carried q x s free

@@ -2,12 +2,13 @@
 use Rattle.std.proofs.Common.{◌≡◌, ◌≤◌, ℕ, ◌==◌, Bool, true, false, not, ◌&&◌, ◌||◌, cond, List, [], ◌∷◌, ◌++◌, filter, Option, Some, None, refl, ap, sym, ◌∙◌, subst, arith}
 use Rattle.std.specs.{Prelude.{option_map}, List.{count_by}}
 use Rattle.std.proofs.lemmas.Bool.{or_parts}
+use Rattle.std.proofs.lemmas.List.Sums.{sum_by-cons}
 use Rattle.bd_ways.specs.Words.{Identity, Object, Reference, same}
 use Rattle.bd_space.specs.References.{object_in, owned_in, held_in, is_asking, is_shaking}
 use Rattle.bd_space.proofs.Identities.{same_eq}
 use Rattle.bd_records.specs.declared.{count.Count.{Count}, row.ObjectRow.{ObjectRow}, row.NameRow.{NameRow}}
 use Rattle.bd_records.specs.Count.{no_count, of_strength}
-use Rattle.bd_records.specs.Counting.{total_of, owed_of, managed_of, asked_of, carried_of, is_to, is_managing, is_carrying}
+use Rattle.bd_records.specs.Counting.{total_of, owed_of, managed_of, carried_of, is_to, is_managing, is_carrying}
 use Rattle.bd_records.specs.{Counted.{CountsAre}, Records.{is_owner}}
 use Rattle.bd_records.proofs.Asked.{none_count}
 
@@ -78,6 +79,20 @@ no_object : (w : Option ObjectRow) → None ≡ option_map object_of w → w ≡
 no_object None h = refl
 no_object (Some v) h = absurd cc
 
+zero_of : (s : Bool) → of_strength s no_count ≡ 0
+zero_of true = refl
+zero_of false = refl
+
+-- of fewer there is none either
+none_below : (f g : Reference → Bool) → ((x : Reference) → f x ≡ true → g x ≡ true) → (l : List Reference) → count_by g l ≡ 0 → count_by f l ≡ 0
+none_below f g so [] e = refl
+none_below f g so (x ∷ l) e = at (f x) refl (g x) refl (none_below f g so l)
+  where
+    at : (b : Bool) → f x ≡ b → (c : Bool) → g x ≡ c → (count_by g l ≡ 0 → count_by f l ≡ 0) → count_by f (x ∷ l) ≡ 0
+    at true a false d more = absurd (let k = so x a in cc)
+    at b a true d more = absurd (grind (arith, e, d, sum_by-cons (λ z. cond (g z) 1 0) x l))
+    at false a false d more = grind (arith, a, d, e, more, sum_by-cons (λ z. cond (f z) 1 0) x l, sum_by-cons (λ z. cond (g z) 1 0) x l)
+
 -- ---- the relation
 
 module _ (O O' : Identity → Option ObjectRow) (N : ℕ → Identity → Option NameRow) (objects : List Object) (l : List Reference) (h : CountsAre O N objects l)
@@ -109,12 +124,19 @@ module _ (O O' : Identity → Option ObjectRow) (N : ℕ → Identity → Option
       totals = λ o s. kept total_of refl refl o s ∙ h.totals o s;
       owed = λ o s. kept owed_of refl refl o s ∙ h.owed o s;
       managed = λ o s. kept managed_of refl refl o s ∙ h.managed o s;
-      asked = λ p o s free. h.asked p o s ((or_parts (owned_in objects p o) (same x.id o && (x.owner == p)) (sym (owned_more objects x p o) ∙ free)).0);
+      asked = h.asked;
+      unasked = λ p o s own. none_asked p o s (owned_in objects p o) refl (sym (owned_more objects x p o) ∙ own);
       carried = λ p o s free. h.carried p o s ((or_parts (owned_in objects p o) (same x.id o && (x.owner == p)) (sym (owned_more objects x p o) ∙ free)).0);
-      asked_few = h.asked_few;
       carried_few = h.carried_few;
     }
       where
+        -- nothing refers to what isn't there yet
+        none_asked : (p : ℕ) (o : Identity) (s b : Bool) → owned_in objects p o ≡ b → (b || (same x.id o && (x.owner == p))) ≡ true → count_by (is_asking p o s) l ≡ 0
+        none_asked p o s true e own = h.unasked p o s e
+        none_asked p o s false e own =
+            let on : same x.id o ≡ true = grind (arith, own) in
+            none_below (is_asking p o s) (is_to o s) (λ y k. grind (arith, k)) l (sym (h.totals o s) ∙ ap (λ w. of_strength s (total_of w)) (none_at o on) ∙ zero_of s)
+
         kept : (f : Option ObjectRow → Count) → f None ≡ no_count → f (Some (record { object = x; total = no_count; owed = no_count; managed = no_count })) ≡ no_count → (o : Identity) (s : Bool) → of_strength s (f (O' o)) ≡ of_strength s (f (O o))
         kept f a b o s = ap (of_strength s) (at (same x.id o) refl)
           where
@@ -153,9 +175,9 @@ module _ (O O' : Identity → Option ObjectRow) (N : ℕ → Identity → Option
       totals = λ y s. at_total y s (same o y) refl;
       owed = λ y s. at_owed y s (same o y) refl;
       managed = λ y s. at_managed y s (same o y) refl;
-      asked = λ p y s free. at_asked p y s (same o y) refl free;
+      asked = h.asked;
+      unasked = λ p y s own. h.unasked p y s (still_owned p y (same o y) refl (sym (owned_less objects o p y) ∙ own));
       carried = λ p y s free. at_carried p y s (same o y) refl free;
-      asked_few = h.asked_few;
       carried_few = h.carried_few;
     }
       where
@@ -171,9 +193,9 @@ module _ (O O' : Identity → Option ObjectRow) (N : ℕ → Identity → Option
         at_managed y s true e = gone_row managed_of refl y e s ∙ sym (nothing_to y e (is_managing y s) (λ x k. grind (arith, k)))
         at_managed y s false e = ap (λ w. of_strength s (managed_of w)) (rows y ∙ ap (λ b. cond b None (O y)) e) ∙ h.managed y s
 
-        at_asked : (p : ℕ) (y : Identity) (s b : Bool) → same o y ≡ b → owned_in (filter (λ x. not (same x.id o)) objects) p y ≡ false → of_strength s (asked_of (N p y)) ≡ count_by (is_asking p y s) l
-        at_asked p y s true e free = zero_few (h.asked_few p y s) (nothing_to y e (is_asking p y s) (λ x k. grind (arith, k)))
-        at_asked p y s false e free = h.asked p y s (grind (arith, free, owned_less objects o p y, e))
+        still_owned : (p : ℕ) (y : Identity) (b : Bool) → same o y ≡ b → cond b false (owned_in objects p y) ≡ true → owned_in objects p y ≡ true
+        still_owned p y true e own = absurd cc
+        still_owned p y false e own = own
 
         at_carried : (p : ℕ) (y : Identity) (s b : Bool) → same o y ≡ b → owned_in (filter (λ x. not (same x.id o)) objects) p y ≡ false → of_strength s (carried_of (N p y)) ≡ count_by (is_carrying p y s) l
         at_carried p y s true e free = zero_few (h.carried_few p y s) (nothing_to y e (is_carrying p y s) (λ x k. grind (arith, k)))

@@ -7,7 +7,7 @@ use Rattle.bd_space.specs.References.{is_of_owner, is_asking, is_shaking, is_ask
 use Rattle.bd_space.proofs.Identities.{same_eq, same_self, same_turned}
 use Rattle.bd_records.specs.declared.{row.ObjectRow.{ObjectRow}, row.NameRow.{NameRow}}
 use Rattle.bd_records.specs.Count.{of_strength}
-use Rattle.bd_records.specs.Counting.{disowned, total_of, owed_of, managed_of, asked_of, carried_of, is_to, is_managing, is_carrying, is_carried_to}
+use Rattle.bd_records.specs.Counting.{disowned, total_of, owed_of, managed_of, carried_of, is_to, is_managing, is_carrying, is_carried_to}
 use Rattle.bd_records.specs.{Counted.{CountsAre}, Records.{is_owner}, Buffers.{is_held}}
 
 -- ---- counts and lists without what passes a test
@@ -189,9 +189,9 @@ module _ (o : Identity) where
       totals = λ y s. at_total y s (same o y) refl;
       owed = λ y s. at_owed y s (same o y) refl;
       managed = λ y s. at_managed y s (same o y) refl;
-      asked = λ p y s free. h.asked p y s free ∙ sym (asking p y s);
+      asked = λ p y s. h.asked p y s ∙ sym (asking p y s);
+      unasked = λ p y s own. asking p y s ∙ h.unasked p y s own;
       carried = λ p y s free. h.carried p y s free ∙ sym (carrying p y s);
-      asked_few = λ p y s. subst (λ n. of_strength s (asked_of (N p y)) ≤ n) (sym (asking p y s)) (h.asked_few p y s);
       carried_few = λ p y s. subst (λ n. of_strength s (carried_of (N p y)) ≤ n) (sym (carrying p y s)) (h.carried_few p y s);
     }
       where

@@ -80,4 +80,4 @@ zero_counts false = refl
 pub blank_counts : (O : Identity → Option ObjectRow) (N : ℕ → Identity → Option NameRow) (objects : List Object) (l : List Reference) → CountsAre O N objects l → (p : ℕ) (o : Identity) → IsBlank (N p o)
     → (s : Bool) → owned_in objects p o ≡ false → (count_by (is_asking p o s) l ≡ 0) × (count_by (is_carrying p o s) l ≡ 0)
 blank_counts O N objects l h p o blank s free =
-    (sym (h.asked p o s free) ∙ ap (of_strength s) blank.0 ∙ zero_counts s, sym (h.carried p o s free) ∙ ap (of_strength s) blank.1 ∙ zero_counts s)
+    (sym (h.asked p o s) ∙ ap (of_strength s) blank.0 ∙ zero_counts s, sym (h.carried p o s free) ∙ ap (of_strength s) blank.1 ∙ zero_counts s)

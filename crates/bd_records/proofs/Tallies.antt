@@ -21,6 +21,13 @@ less_strength true false c n e = grind (arith, e)
 less_strength false true c n e = grind (arith, e)
 less_strength false false c n e = grind (arith, e)
 
+asked_gives : (p : ℕ) (h : Holder) → is_asked_by p h ≡ true → gives_name_to p h ≡ true
+asked_gives p (Asked q) e = e
+asked_gives p (Carried c q) e = absurd cc
+asked_gives p (Target c q) e = absurd cc
+asked_gives p Handshake e = absurd cc
+asked_gives p Manager e = absurd cc
+
 -- ---- one more
 
 -- b: the reference is to the object
@@ -50,7 +57,7 @@ managed_more true (Some v) r (Target d q) is s n here e few = grind (arith, e, i
 managed_more true (Some v) r Handshake is s n here e few = grind (arith, e, is)
 managed_more true (Some v) r Manager is s n here e few = grind (arith, is, more_strength s r.strong v.managed n e few)
 
-asked_more : (p : ℕ) (b : Bool) (w : Option NameRow) (r : Reference) (h : Holder) → r.holder ≡ h → (s : Bool) (n : ℕ) → ((gives_name_to p h && b) ≡ true → is_some w ≡ true) → of_strength s (asked_of w) ≡ n → n < 18446744073709551615
+asked_more : (p : ℕ) (b : Bool) (w : Option NameRow) (r : Reference) (h : Holder) → r.holder ≡ h → (s : Bool) (n : ℕ) → ((is_asked_by p h && b) ≡ true → is_some w ≡ true) → of_strength s (asked_of w) ≡ n → n < 18446744073709551615
     → of_strength s (asked_of (cond (gives_name_to p h && b) (option_map (name_counting r) w) w)) ≡ n + cond (beq r.strong s && b && is_asked_by p h) 1 0
 asked_more p b w r (Asked q) is s n here e few = at ((q == p) && b) refl w here e
   where
@@ -83,20 +90,6 @@ more_few true true c n e = grind (arith, e)
 more_few true false c n e = grind (arith, e)
 more_few false true c n e = grind (arith, e)
 more_few false false c n e = grind (arith, e)
-
-asked_more_few : (p : ℕ) (b : Bool) (w : Option NameRow) (r : Reference) (h : Holder) → r.holder ≡ h → (s : Bool) (n : ℕ) → of_strength s (asked_of w) ≤ n
-    → of_strength s (asked_of (cond (gives_name_to p h && b) (option_map (name_counting r) w) w)) ≤ n + cond (beq r.strong s && b && is_asked_by p h) 1 0
-asked_more_few p b w r (Asked q) is s n e = at ((q == p) && b) refl w e
-  where
-    at : (d : Bool) → ((q == p) && b) ≡ d → (w : Option NameRow) → of_strength s (asked_of w) ≤ n → of_strength s (asked_of (cond d (option_map (name_counting r) w) w)) ≤ n + cond (beq r.strong s && b && (q == p)) 1 0
-    at false f w e = grind (arith, e, f)
-    at true f None e = grind (arith, e)
-    at true f (Some v) e = grind (arith, is, f, more_few s r.strong v.asked n e)
-asked_more_few p b None r (Carried d q) is s n e = grind (arith, e, is)
-asked_more_few p b (Some v) r (Carried d q) is s n e = grind (arith, e, is)
-asked_more_few p b w r (Target d q) is s n e = grind (arith, e, is)
-asked_more_few p b w r Manager is s n e = grind (arith, e, is)
-asked_more_few p b w r Handshake is s n e = grind (arith, e, is)
 
 carried_more_few : (p : ℕ) (b : Bool) (w : Option NameRow) (r : Reference) (h : Holder) → r.holder ≡ h → (s : Bool) (n : ℕ) → of_strength s (carried_of w) ≤ n
     → of_strength s (carried_of (cond (gives_name_to p h && b) (option_map (name_counting r) w) w)) ≤ n + cond (beq r.strong s && b && is_carried_to p h) 1 0
@@ -190,17 +183,18 @@ module _ (O O' : Identity → Option ObjectRow) (N N' : ℕ → Identity → Opt
       → ((g : Test) → count_by (on g) m ≡ count_by (on g) l + cond (on g r) 1 0)
       → is_some (O r.object) ≡ true
       → ((p : ℕ) → gives_name_to p r.holder ≡ true → owned_in objects p r.object ≡ false → is_some (N p r.object) ≡ true)
+      → ((p : ℕ) → is_asked_by p r.holder ≡ true → owned_in objects p r.object ≡ false)
       → ((o : Identity) → O' o ≡ cond (same r.object o) (option_map (counting r) (O o)) (O o))
       → ((p : ℕ) (o : Identity) → N' p o ≡ cond (gives_name_to p r.holder && same r.object o) (option_map (name_counting r) (N p o)) (N p o))
       → ((o x : Identity) → same o x ≡ true → o ≡ x)
       → CountsAre O' N' objects m
-  counts_more few comes here named os ns eq = record {
+  counts_more few comes here named others os ns eq = record {
     totals = λ o s. ap (λ w. of_strength s (total_of w)) (os o) ∙ total_more (same r.object o) (O o) r s _ (there o) (h.totals o s) (short (is_to o s)) ∙ sym (comes (λ x t k. beq t s && same x o));
     owed = λ o s. ap (λ w. of_strength s (owed_of w)) (os o) ∙ owed_more (same r.object o) (O o) r r.holder refl s _ (there o) (h.owed o s) (short (is_shaking o s)) ∙ sym (comes (λ x t k. beq t s && same x o && is_handshake k));
     managed = λ o s. ap (λ w. of_strength s (managed_of w)) (os o) ∙ managed_more (same r.object o) (O o) r r.holder refl s _ (there o) (h.managed o s) (short (is_managing o s)) ∙ sym (comes (λ x t k. beq t s && same x o && is_managers k));
-    asked = λ p o s free. ap (λ w. of_strength s (asked_of w)) (ns p o) ∙ asked_more p (same r.object o) (N p o) r r.holder refl s _ (called p o free) (h.asked p o s free) (short (is_asking p o s)) ∙ sym (comes (λ x t k. beq t s && same x o && is_asked_by p k));
+    asked = λ p o s. ap (λ w. of_strength s (asked_of w)) (ns p o) ∙ asked_more p (same r.object o) (N p o) r r.holder refl s _ (asked_called p o) (h.asked p o s) (short (is_asking p o s)) ∙ sym (comes (λ x t k. beq t s && same x o && is_asked_by p k));
     carried = λ p o s free. ap (λ w. of_strength s (carried_of w)) (ns p o) ∙ carried_more p (same r.object o) (N p o) r r.holder refl s _ (called p o free) (h.carried p o s free) (short (is_carrying p o s)) ∙ sym (comes (λ x t k. beq t s && same x o && is_carried_to p k));
-    asked_few = λ p o s. (let e = ap (λ w. of_strength s (asked_of w)) (ns p o) in let f = asked_more_few p (same r.object o) (N p o) r r.holder refl s (count_by (is_asking p o s) l) (h.asked_few p o s) in let g = comes (λ x t k. beq t s && same x o && is_asked_by p k) in at_most e f g);
+    unasked = λ p o s own. comes (λ x t k. beq t s && same x o && is_asked_by p k) ∙ none_more p o s own (beq r.strong s && same r.object o && is_asked_by p r.holder) refl;
     carried_few = λ p o s. (let e = ap (λ w. of_strength s (carried_of w)) (ns p o) in let f = carried_more_few p (same r.object o) (N p o) r r.holder refl s (count_by (is_carrying p o s) l) (h.carried_few p o s) in let g = comes (λ x t k. beq t s && same x o && is_carried_to p k) in at_most e f g);
   }
     where
@@ -209,6 +203,19 @@ module _ (O O' : Identity → Option ObjectRow) (N N' : ℕ → Identity → Opt
 
       there : (o : Identity) → same r.object o ≡ true → is_some (O o) ≡ true
       there o e = subst (λ x. is_some (O x) ≡ true) (eq r.object o e) here
+
+      asked_called : (p : ℕ) (o : Identity) → (is_asked_by p r.holder && same r.object o) ≡ true → is_some (N p o) ≡ true
+      asked_called p o e =
+          let is : r.object ≡ o = eq r.object o (grind (arith, e)) in
+          let by : is_asked_by p r.holder ≡ true = grind (arith, e) in
+          subst (λ x. is_some (N p x) ≡ true) is (named p (asked_gives p r.holder by) (others p by))
+
+      none_more : (p : ℕ) (o : Identity) (s : Bool) → owned_in objects p o ≡ true → (b : Bool) → (beq r.strong s && same r.object o && is_asked_by p r.holder) ≡ b → count_by (is_asking p o s) l + cond b 1 0 ≡ 0
+      none_more p o s own false e = let z = h.unasked p o s own in omega (arith, z)
+      none_more p o s own true e =
+          let is : r.object ≡ o = eq r.object o (grind (arith, e)) in
+          let free = subst (λ x. owned_in objects p x ≡ false) is (others p (grind (arith, e))) in
+          absurd (let k = sym own ∙ free in cc)
 
       called : (p : ℕ) (o : Identity) → owned_in objects p o ≡ false → (gives_name_to p r.holder && same r.object o) ≡ true → is_some (N p o) ≡ true
       called p o free e =
@@ -224,9 +231,9 @@ module _ (O O' : Identity → Option ObjectRow) (N N' : ℕ → Identity → Opt
     totals = λ o s. ap (λ w. of_strength s (total_of w)) (os o) ∙ total_less (same r.object o) (O o) r s _ (h.totals o s) ∙ sym (goes (λ x t k. beq t s && same x o));
     owed = λ o s. ap (λ w. of_strength s (owed_of w)) (os o) ∙ owed_less (same r.object o) (O o) r r.holder refl s _ (h.owed o s) ∙ sym (goes (λ x t k. beq t s && same x o && is_handshake k));
     managed = λ o s. ap (λ w. of_strength s (managed_of w)) (os o) ∙ managed_less (same r.object o) (O o) r r.holder refl s _ (h.managed o s) ∙ sym (goes (λ x t k. beq t s && same x o && is_managers k));
-    asked = λ p o s free. ap (λ w. of_strength s (asked_of w)) (ns p o) ∙ asked_less p (same r.object o) (N p o) r r.holder refl s _ (h.asked p o s free) ∙ sym (goes (λ x t k. beq t s && same x o && is_asked_by p k));
+    asked = λ p o s. ap (λ w. of_strength s (asked_of w)) (ns p o) ∙ asked_less p (same r.object o) (N p o) r r.holder refl s _ (h.asked p o s) ∙ sym (goes (λ x t k. beq t s && same x o && is_asked_by p k));
     carried = λ p o s free. ap (λ w. of_strength s (carried_of w)) (ns p o) ∙ carried_less p (same r.object o) (N p o) r r.holder refl s _ (h.carried p o s free) ∙ sym (goes (λ x t k. beq t s && same x o && is_carried_to p k));
-    asked_few = λ p o s. (let e = ap (λ w. of_strength s (asked_of w)) (ns p o) ∙ asked_less p (same r.object o) (N p o) r r.holder refl s (of_strength s (asked_of (N p o))) refl in let g = goes (λ x t k. beq t s && same x o && is_asked_by p k) in at_least _ e (h.asked_few p o s) g);
+    unasked = λ p o s own. goes (λ x t k. beq t s && same x o && is_asked_by p k) ∙ (let z = h.unasked p o s own in omega (arith, z));
     carried_few = λ p o s. (let e = ap (λ w. of_strength s (carried_of w)) (ns p o) ∙ carried_less p (same r.object o) (N p o) r r.holder refl s (of_strength s (carried_of (N p o))) refl in let g = goes (λ x t k. beq t s && same x o && is_carried_to p k) in at_least _ e (h.carried_few p o s) g);
   }
 

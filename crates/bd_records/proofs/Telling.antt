@@ -112,8 +112,8 @@ module _ (weak strong : Bool) (o : Identity) where
       totals = λ y s. ap (of_strength s) (kept total_of total_kept y) ∙ h.totals y s;
       owed = λ y s. ap (of_strength s) (kept owed_of owed_kept y) ∙ h.owed y s;
       managed = λ y s. ap (of_strength s) (kept managed_of managed_kept y) ∙ h.managed y s;
-      asked = λ p y s free. h.asked p y s (sym (owned_told objects p y) ∙ free);
+      asked = h.asked;
+      unasked = λ p y s own. h.unasked p y s (sym (owned_told objects p y) ∙ own);
       carried = λ p y s free. h.carried p y s (sym (owned_told objects p y) ∙ free);
-      asked_few = h.asked_few;
       carried_few = h.carried_few;
     }

@@ -1,7 +1,7 @@
 -- When the records are those of a space's objects and references.
 use Rattle.std.specs.Prelude.{ℕ, ◌≡◌, ◌≤◌, ◌-◌, ◌==◌, Bool, true, false, List, length, Option, None, Some, is_some, option_map, min}
 use Rattle.bd_ways.specs.Words.{Identity, Object, Reference}
-use Rattle.bd_space.specs.References.{object_in, owned_in, gives_name_to}
+use Rattle.bd_space.specs.References.{object_in, owned_in, gives_name_to, is_asked_by}
 use Rattle.bd_records.specs.declared.{row.ObjectRow.{ObjectRow}, records.Records.{Records}}
 use Rattle.bd_records.specs.{Objects.{row_at, object_room}, Owned.{OwnedAre, own_room}, Names.{name_at}, Counted.{CountsAre}, Buffers.{BuffersAre, buffer_room}}
 
@@ -19,10 +19,12 @@ pub record RecordsAre (t : Records) (objects : List Object) (l : List Reference)
   -- so many came in ever: no counter can have passed it
   pub few : length l ≤ t.made
 
--- There is a record for each counter that the reference belongs to: the object's, and where it is another's the name's.
+-- There is a record for each counter that the reference belongs to: the object's, and where it is another's the name's. Nobody asks
+-- for its own.
 pub record IsHomed (t : Records) (objects : List Object) (r : Reference) : Type 0 where
   pub here : is_some (row_at t.objects r.object) ≡ true
   pub named : (p : ℕ) → gives_name_to p r.holder ≡ true → owned_in objects p r.object ≡ false → is_some (name_at t.names p r.object) ≡ true
+  pub others : (p : ℕ) → is_asked_by p r.holder ≡ true → owned_in objects p r.object ≡ false
 
 -- how many objects more take no memory
 abbrev pub new_room : Records → ℕ

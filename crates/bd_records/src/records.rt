@@ -99,10 +99,10 @@ impl Records {
         }
     }
 
-    /// Whether the process asked for the object in this strength. Of an object that isn't its own.
+    /// Whether the process asked for the object in this strength.
     #[inline(always)]
     pub fn is_asked(&self, p: u64, o: Identity, strong: bool, near: Near) -> bool
-        ensures { TellsOfOthers self.now p o result (λ l. list_any (refer.is_asking p o strong) l) }
+        ensures { Tells self.now result (λ l. list_any (refer.is_asking p o strong) l) }
     {
         match self.names.row_near(p, o, near.number, near.process) {
             Some(w) => w.asked.of(strong) > 0,
@@ -159,10 +159,9 @@ impl Records {
         self.made = self.made.saturating_add(1);
     }
 
-    /// Drops the oldest reference of this strength that the process asked for, if there is one. Of an object that isn't its own.
+    /// Drops the oldest reference of this strength that the process asked for, if there is one.
     pub fn drop_asked(&mut self, p: u64, o: Identity, strong: bool, near: Near)
-        ensures stands { (objects : List Object) (l : List Reference) → refer.owned_in objects p o ≡ false
-            → RecordsAre self.old objects l → RecordsAre self.new objects (without_first (refer.is_asking p o strong) l) }
+        ensures stands { Makes self.old self.new (λ l. without_first (refer.is_asking p o strong) l) }
         ensures names { KeepsNames self.old.names self.new.names }
         ensures uses { reference_room self.old ≤ reference_room self.new }
     {

@@ -11,10 +11,10 @@ use Rattle.bd_records.proofs.Named.{names_kept}
 use Rattle.bd_records.proofs.records.Records.drop_asked.Goals as goal
 
 pub returns-then-is_asked-clause-stands : goal.returns-then-is_asked-clause-stands
-returns-then-is_asked-clause-stands c = λ objects l free h.
+returns-then-is_asked-clause-stands c = λ objects l h.
     let t = c.args.self.now in
     let test = is_asking c.args.p c.args.o c.args.strong in
-    let any : list_any test l ≡ true = sym (c.is_asked.ensures objects l h free) ∙ c.if-is_asked.true in
+    let any : list_any test l ≡ true = sym (c.is_asked.ensures objects l h) ∙ c.if-is_asked.true in
     let m = without_first test l in
     let r : Reference = record { id = record { place = 0; index = 0 }; object = c.args.o; strong = c.args.strong; holder = Asked c.args.p } in
     record {
@@ -28,8 +28,8 @@ returns-then-is_asked-clause-stands c = λ objects l free h.
     }
 
 pub returns-else-is_asked-clause-stands : goal.returns-else-is_asked-clause-stands
-returns-else-is_asked-clause-stands c = λ objects l free h.
-    let none : list_any (is_asking c.args.p c.args.o c.args.strong) l ≡ false = sym (c.is_asked.ensures objects l h free) ∙ c.if-is_asked.false in
+returns-else-is_asked-clause-stands c = λ objects l h.
+    let none : list_any (is_asking c.args.p c.args.o c.args.strong) l ≡ false = sym (c.is_asked.ensures objects l h) ∙ c.if-is_asked.false in
     subst (RecordsAre c.args.self.now objects) (sym (none_first (is_asking c.args.p c.args.o c.args.strong) l none)) h
 
 pub returns-then-is_asked-clause-names : goal.returns-then-is_asked-clause-names

@@ -16,7 +16,7 @@ returns-clause-stands c = λ objects l homed h.
       owners = λ p o. h.owners p o ∙ sym (owners_same (row_at t.objects) (row_at c.turn.new.objects) true c.args.r c.turn.ensures.objects p o);
       own = h.own;
       counts = counts_more (row_at t.objects) (row_at c.turn.new.objects) (name_at t.names) (name_at c.turn.new.names) objects l (l ++ c.args.r ∷ []) c.args.r h.counts few
-          (λ g. count_push (on g) l c.args.r) homed.here homed.named c.turn.ensures.objects c.turn.ensures.names same_eq;
+          (λ g. count_push (on g) l c.args.r) homed.here homed.named homed.others c.turn.ensures.objects c.turn.ensures.names same_eq;
       held = c.push.ensures.stands l h.held;
       few = (let n = length_more (λ x. true) l c.args.r in let a = h.few in let s = c.saturating_add-self.ensures in grind (arith, n, a, s, few));
     }

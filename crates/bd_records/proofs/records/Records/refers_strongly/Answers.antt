@@ -11,7 +11,7 @@ returns-then-w-gt0 c = λ objects l h free.
     let is = sym c.row_near.ensures.is ∙ c.in-Some.is in
     let p = c.args.p in
     let o = c.args.o in
-    let a : c.in-Some.w.asked.strong ≡ count_by (is_asking p o true) l = ap (λ w. of_strength true (asked_of w)) (sym is) ∙ h.counts.asked p o true free in
+    let a : c.in-Some.w.asked.strong ≡ count_by (is_asking p o true) l = ap (λ w. of_strength true (asked_of w)) (sym is) ∙ h.counts.asked p o true in
     let some : nat_lt 0 c.in-Some.w.asked.strong ≡ true = (let k = c.if-w-gt0.true in grind (arith, nat_tests, k)) in
     some ∙ sym (strongly_counts p o l ∙ or_true _ _ (sym (ap (nat_lt 0) a) ∙ some))
 
@@ -20,7 +20,7 @@ returns-else-w-gt0 c = λ objects l h free.
     let is = sym c.row_near.ensures.is ∙ c.in-Some.is in
     let p = c.args.p in
     let o = c.args.o in
-    let a : c.in-Some.w.asked.strong ≡ count_by (is_asking p o true) l = ap (λ w. of_strength true (asked_of w)) (sym is) ∙ h.counts.asked p o true free in
+    let a : c.in-Some.w.asked.strong ≡ count_by (is_asking p o true) l = ap (λ w. of_strength true (asked_of w)) (sym is) ∙ h.counts.asked p o true in
     let b : c.in-Some.w.carried.strong ≡ count_by (is_carrying p o true) l = ap (λ w. of_strength true (carried_of w)) (sym is) ∙ h.counts.carried p o true free in
     let none : nat_lt 0 c.in-Some.w.asked.strong ≡ false = (let k = c.if-w-gt0.false in grind (arith, nat_tests, k)) in
     ap (nat_lt 0) b ∙ sym (strongly_counts p o l ∙ or_false _ _ (sym (ap (nat_lt 0) a) ∙ none))
@@ -30,6 +30,6 @@ returns-in-None c = λ objects l h free.
     let is = sym c.row_near.ensures.is ∙ c.in-None.is in
     let p = c.args.p in
     let o = c.args.o in
-    let a : 0 ≡ count_by (is_asking p o true) l = ap (λ w. of_strength true (asked_of w)) (sym is) ∙ h.counts.asked p o true free in
+    let a : 0 ≡ count_by (is_asking p o true) l = ap (λ w. of_strength true (asked_of w)) (sym is) ∙ h.counts.asked p o true in
     let b : 0 ≡ count_by (is_carrying p o true) l = ap (λ w. of_strength true (carried_of w)) (sym is) ∙ h.counts.carried p o true free in
     (λ i. nat_lt 0 (a i) || nat_lt 0 (b i)) ∙ sym (strongly_counts p o l)
