@@ -13,7 +13,7 @@ use Rattle.bd_records.specs.{Counted.{CountsAre}, Records.{is_owner}, Buffers.{i
 -- ---- counts and lists without what passes a test
 
 module _ (f q : Reference → Bool) where
-  abbrev rest : List Reference → List Reference
+  abbrev pub rest : List Reference → List Reference
   rest l = filter (λ x. not (q x)) l
 
   pub count_rest : ((x : Reference) → f x ≡ true → q x ≡ false) → (l : List Reference) → count_by f (rest l) ≡ count_by f l
@@ -50,6 +50,16 @@ module _ (f q : Reference → Bool) where
       at : (b : Bool) → length (rest l) ≤ length l → length (cond (not b) (x ∷ rest l) (rest l)) ≤ length (x ∷ l)
       at true more = omega (arith, more)
       at false more = omega (arith, more)
+
+-- those that stay, and those that go
+pub count_parts : (f q g : Reference → Bool) → ((x : Reference) → g x ≡ (f x && q x)) → (l : List Reference) → count_by f l ≡ count_by f (rest f q l) + count_by g l
+count_parts f q g both [] = refl
+count_parts f q g both (x ∷ l) = at (q x) refl (f x) refl (count_parts f q g both l)
+  where
+    at : (b : Bool) → q x ≡ b → (c : Bool) → f x ≡ c → count_by f l ≡ count_by f (rest f q l) + count_by g l
+        → count_by f (x ∷ l) ≡ count_by f (cond (not b) (x ∷ rest f q l) (rest f q l)) + count_by g (x ∷ l)
+    at true e c k more = grind (arith, e, k, more, both x, sum_by-cons (λ z. cond (f z) 1 0) x l, sum_by-cons (λ z. cond (g z) 1 0) x l)
+    at false e c k more = grind (arith, e, k, more, both x, sum_by-cons (λ z. cond (f z) 1 0) x l, sum_by-cons (λ z. cond (f z) 1 0) x (rest f q l), sum_by-cons (λ z. cond (g z) 1 0) x l)
 
 -- ---- what an owner has to its own object
 

@@ -11,3 +11,4 @@ mod Telling
 mod Disowning
 mod Possessing
 mod Given
+mod Forgetting

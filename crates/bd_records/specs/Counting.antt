@@ -68,6 +68,14 @@ told weak strong w = record {
 abbrev pub disowned : ObjectRow → ObjectRow
 disowned w = record { object = w.object; total = less (less w.total w.owed) w.managed; owed = no_count; managed = no_count }
 
+-- so many fewer to the object
+abbrev pub lowered : Count → ObjectRow → ObjectRow
+lowered fewer w = record { object = w.object; total = less w.total fewer; owed = w.owed; managed = w.managed }
+
+-- the process asked for nothing by the name
+abbrev pub unasked : NameRow → NameRow
+unasked w = record { object = w.object; asked = no_count; carried = w.carried }
+
 -- each counter of an object or a name, 0 where that has no record
 abbrev pub total_of : Option ObjectRow → Count
 total_of None = no_count

@@ -131,6 +131,30 @@ impl Names {
         }
     }
 
+    /// The record of the process's name of that object counts nothing any more that the process asked for, if there is one.
+    pub fn clear_asked(&mut self, p: u64, o: Identity, n: u32, near: usize)
+        ensures cleared { (q : ℕ) (x : declared.Identity) → name_at self.new q x
+            ≡ (if (p == q) && same o x then option_map spec.unasked (name_at self.old q x) else name_at self.old q x) }
+        ensures named { (q m : ℕ) → named_by self.new q m ≡ named_by self.old q m }
+        ensures numbers { (q : ℕ) (x : declared.Identity) → number_of self.new q x ≡ number_of self.old q x }
+        ensures uses { (q : ℕ) → name_room self.old q ≤ name_room self.new q }
+    {
+        if let Some(k) = self.number_near(p, o, n, near) {
+            match self.rows.get(p, k, near) {
+                Some(w) => self.rows.set(
+                    p,
+                    k,
+                    NameRow {
+                        asked: Count::none(),
+                        ..w
+                    },
+                    near,
+                ),
+                None => unreachable!(),
+            }
+        }
+    }
+
     /// Sees to it that the process has a name for the object, which gets the least free number from 0 or from 1
     /// if it is new.
     pub fn give(

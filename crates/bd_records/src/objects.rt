@@ -7,10 +7,11 @@ ghost use Rattle.bd_space.specs.declared.step.Identity as declared;
 ghost use Rattle.bd_records.specs.Slots.{id_in};
 ghost use Rattle.bd_records.specs.Counting as spec;
 
+use crate::count::Count;
 use crate::row::ObjectRow;
 use crate::slots::{
     id_at, insert_row, insert_slot, remove_of_owner_in, remove_row, remove_slot, reserve_rows,
-    reserve_slots, row_in, set_row, slot_of, tell_row, turn_row,
+    reserve_slots, row_in, set_row, slot_of, subtract_row, tell_row, turn_row,
 };
 use bd_space::{Identity, Reference};
 use slab::Slab;
@@ -104,6 +105,17 @@ impl Objects {
     {
         if let Some(k) = self.slot_near(o, near) {
             tell_row(&mut self.rows, k, weak, strong);
+        }
+    }
+
+    /// The object's record counts so many fewer.
+    pub fn subtract(&mut self, near: usize, o: Identity, fewer: Count)
+        ensures lowered { (x : declared.Identity) → row_at self.new x
+            ≡ (if same o x then option_map (spec.lowered fewer) (row_at self.old x) else row_at self.old x) }
+        ensures uses { object_room self.old ≤ object_room self.new }
+    {
+        if let Some(k) = self.slot_near(o, near) {
+            subtract_row(&mut self.rows, k, fewer);
         }
     }
 

@@ -202,6 +202,18 @@ impl Records {
         self.objects.remove_of_owner(near, o);
     }
 
+    /// Drops all references to the object that the process asked for.
+    pub fn drop_all_asked(&mut self, p: u64, o: Identity, near: Near)
+        ensures stands { Makes self.old self.new (λ l. filter (λ r. not (same r.object o && refer.is_asked_by p r.holder)) l) }
+        ensures names { KeepsNames self.old.names self.new.names }
+        ensures uses { reference_room self.old ≤ reference_room self.new }
+    {
+        if let Some(w) = self.names.row_near(p, o, near.number, near.process) {
+            self.objects.subtract(near.object, o, w.asked);
+            self.names.clear_asked(p, o, near.number, near.process);
+        }
+    }
+
     /// The objects to which the buffer refers, put after what is there. Fails for want of memory alone.
     pub fn referred(&self, b: u64, touched: &mut Vec<Identity>) -> Result<(), AllocError>
         ensures { OnOk result (Tells self.now touched.new.items (λ l. touched.old.items ++ map (λ r. r.object) (filter

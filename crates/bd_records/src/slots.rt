@@ -86,6 +86,16 @@ pub(crate) fn remove_of_owner_in(rows: &mut Slab<ObjectRow>, k: usize)
     }
 }
 
+/// The record counts so many fewer.
+pub(crate) fn subtract_row(rows: &mut Slab<ObjectRow>, k: usize, fewer: Count)
+    ensures set { (j : ℕ) → get rows.new j ≡ (if k == j then option_map (spec.lowered fewer) (get rows.old j) else get rows.old j) }
+    ensures room { row_room rows.new ≡ row_room rows.old }
+{
+    if let Some(w) = rows.get_mut(k) {
+        w.total = w.total.less(fewer);
+    }
+}
+
 pub(crate) fn reserve_rows(rows: &mut Slab<ObjectRow>, more: usize) -> Result<(), AllocError>
     ensures same { (j : ℕ) → get rows.new j ≡ get rows.old j }
     ensures uses { row_room rows.old ≤ row_room rows.new }
