@@ -1,5 +1,5 @@
 -- A name comes or goes while nothing gives it.
-use Rattle.std.proofs.Common.{◌≡◌, ◌≤◌, ℕ, ◌==◌, Bool, true, false, ◌&&◌, cond, List, [], ◌∷◌, Option, Some, None, is_some, refl, ap, sym, ◌∙◌, subst, arith}
+use Rattle.std.proofs.Common.{◌≡◌, ◌≤◌, ℕ, ◌==◌, Bool, true, false, ◌&&◌, cond, List, [], ◌∷◌, Option, Some, None, refl, ap, sym, ◌∙◌, subst, arith}
 use Rattle.std.proofs.lemmas.Bool.{and_parts, eqb-true}
 use Rattle.std.specs.List.{count_by}
 use Rattle.bd_ways.specs.Words.{Identity, Object, Reference, same}
@@ -14,8 +14,7 @@ use Rattle.std.proofs.lemmas.List.Sums.{sum_by-cons}
 use Rattle.bd_space.specs.References.{is_asked_by}
 use Rattle.bd_space.specs.declared.space.Holder.{Holder}
 use Rattle.bd_space.specs.declared.space.Holder.TheVariants.{Asked, Carried, Target, Handshake, Manager}
-use Rattle.bd_numbered.specs.Numbered.{value_at}
-use Rattle.bd_records.specs.{declared.names.Names.{Names}, Names.{name_at, number_of}, Slots.{on_slot}, Counting.{is_carried_to}}
+use Rattle.bd_records.specs.{Counting.{is_carried_to}}
 use Rattle.bd_records.specs.{NameRows.{new_row}, Counted.{CountsAre}}
 
 module _ (O : Identity → Option ObjectRow) (N M : ℕ → Identity → Option NameRow) (p : ℕ) (o : Identity) (objects : List Object) (l : List Reference) (h : CountsAre O N objects l) where
@@ -83,13 +82,6 @@ module _ (O : Identity → Option ObjectRow) (N M : ℕ → Identity → Option 
           let own : owned_in objects p o ≡ false = subst (λ y. owned_in objects y o ≡ false) (sym pq) (subst (λ y. owned_in objects q y ≡ false) (sym ox) free) in
           ap (λ w. of_strength s (carried_of w)) (rows q x ∙ ap (λ b. cond b None (N q x)) e) ∙ zero_count s
           ∙ subst (λ y. 0 ≡ count_by (is_carrying q y s) l) ox (subst (λ y. 0 ≡ count_by (is_carrying y o s) l) pq (sym (none s own).1))
-
--- what was given has no count, or was there
-pub given_counts : (O : Identity → Option ObjectRow) (t u : Names) (p : ℕ) (o : Identity) (objects : List Object) (l : List Reference) → CountsAre O (name_at t) objects l
-    → (k : Option ℕ) → number_of t p o ≡ k → (is_some k ≡ true → u ≡ t)
-    → (k ≡ None → (q : ℕ) (x : Identity) → name_at u q x ≡ cond ((p == q) && same o x) (Some (new_row o)) (name_at t q x)) → CountsAre O (name_at u) objects l
-given_counts O t u p o objects l h (Some n) is had rows = subst (λ v. CountsAre O (name_at v) objects l) (sym (had refl)) h
-given_counts O t u p o objects l h None is had rows = counts_named O (name_at t) (name_at u) p o objects l h (ap (on_slot None (value_at t.rows p)) is) (rows refl)
 
 pub none_count : (q p : Reference → Bool) → ((x : Reference) → q x ≡ true → p x ≡ true) → (l : List Reference) → list_any p l ≡ false → count_by q l ≡ 0
 none_count q p so [] e = refl

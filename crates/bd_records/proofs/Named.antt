@@ -2,8 +2,8 @@
 use Rattle.std.proofs.Common.{◌≡◌, ℕ, ◌<◌, ◌≤◌, ◌==◌, ◌&&◌, Bool, true, false, not, cond, List, [], ◌∷◌, ◌++◌, filter, Option, Some, None, is_some, refl, sym, ap, ◌∙◌, subst, arith, Result, Ok, Err, IfOk, OnOk, OnErr, IfSome, ◌^◌, inl, inr}
 use Rattle.std.specs.Prelude.{nat_lt, IfNone}
 use Rattle.std.proofs.lemmas.Bool.Decides.{nat_tests}
-use Rattle.std.proofs.lemmas.Bool.{and_parts, eqb-true, cases_lt}
-use Rattle.bd_space.proofs.Identities.{same_eq}
+use Rattle.std.proofs.lemmas.Bool.{and_parts, eqb-true, eq-eqb, cases_lt}
+use Rattle.bd_space.proofs.Identities.{same_eq, same_self}
 use Rattle.bd_ways.specs.Words.{Identity, Name, same}
 use Rattle.bd_space.specs.Names.{named_in, number_in}
 use Rattle.bd_records.specs.{declared.names.Names.{Names}, Names.{named_by, number_of}, NamesAre.{NamesAre, KeepsNames}}
@@ -96,7 +96,7 @@ ok_given (Ok n) t u zero p o lacks free small objects numbers = λ l h.
     objects numbers
 
 pub full_given : {E : Type 0} (r : Result ℕ E) (t : Names) (zero : Bool) (p : ℕ) (o : Identity)
-    → OnErr r (number_of t p o ≡ None) → OnErr r ((m : ℕ) → cond zero 0 1 ≤ m → m ≤ 4294967294 → is_some (named_by t p m) ≡ true)
+    → number_of t p o ≡ None → OnErr r ((m : ℕ) → cond zero 0 1 ≤ m → m ≤ 4294967294 → is_some (named_by t p m) ≡ true)
     → OnErr r ((l : List Name) → NamesAre t l → IsFull zero p l o)
 full_given (Ok n) t zero p o lacks full = tt
 full_given (Err e) t zero p o lacks full = λ l h. record { lacks = h.numbers_are p o ∙ lacks; past = past_is t l h zero p full }
@@ -128,3 +128,11 @@ next_is t l h p from None none le there before = λ n le. elim (cases_lt n 42949
   | inr ge ↦ past_unnamed l h.fits p n (omega (arith, ge))
 ]
 next_is t l h p from (Some n) none le there before = (le, ap is_some (h.objects_are p n) ∙ there, λ m le lt. h.objects_are p m ∙ before m le lt)
+
+-- the object's number is the one that was answered
+pub here_number : {E : Type 0} (r : Result ℕ E) (p : ℕ) (o : Identity) (N M : ℕ → Identity → Option ℕ) → IfOk r (λ n. (q : ℕ) (x : Identity) → M q x ≡ cond ((p == q) && same o x) (Some n) (N q x)) → IfOk r (λ n. M p o ≡ Some n)
+here_number (Err e) p o N M h = tt
+here_number (Ok n) p o N M h = h p o ∙ ap (λ b. cond b (Some n) (N p o)) here
+  where
+    here : ((p == p) && same o o) ≡ true
+    here = rw (eq-eqb p p refl, same_self o) refl

@@ -53,7 +53,7 @@ impl Records {
         if let Some(_) = self.names.number_near(p, o, near.number, near.process) {
             return Ok(());
         }
-        match give_name(&mut self.names, from_zero, p, o, near.number, near.process) {
+        match give_name(&mut self.names, from_zero, p, o, near.process) {
             Ok(n) => {
                 self.given.push_reserved(Name {
                     process: p,

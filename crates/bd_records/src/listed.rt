@@ -44,30 +44,25 @@ pub fn next_number(names: &Names, p: u64, from: u32, near: usize) -> Option<u32>
     names.next_number(p, from, near)
 }
 
-/// Sees to it that the process has a name for the object, which gets the least free number from 0 or from 1 if it is new, and
-/// answers the name's number.
+/// A name for an object that the process has none for: with the least free number, from 0 or from 1, which it answers.
 pub fn give_name(
     names: &mut Names,
     from_zero: bool,
     p: u64,
     o: Identity,
-    n: u32,
     near: usize,
 ) -> Result<u32, NumbersFull>
-    requires { 1 ≤ name_room names.old p }
+    requires room { 1 ≤ name_room names.old p }
+    requires lacks { number_of names.old p o ≡ None }
     ensures ok { OnOk result (Makes (NamesAre names.old) (NamesAre names.new) (λ l. with_number from_zero p l o)) }
     ensures number { IfOk result (λ n. number_of names.new p o ≡ Some n) }
-    ensures had { is_some (number_of names.old p o) ≡ true → names.new ≡ names.old }
-    ensures rows { number_of names.old p o ≡ None → OnOk result ((q : ℕ) (x : object.Identity)
+    ensures rows { OnOk result ((q : ℕ) (x : object.Identity)
         → name_at names.new q x ≡ (if (p == q) && same o x then Some (new_row o) else name_at names.old q x)) }
     ensures err { OnErr result (names.new ≡ names.old) }
     ensures full { OnErr result ((l : List declared.Name) → NamesAre names.old l → IsFull from_zero p l o) }
     ensures uses { (q : ℕ) → name_room names.old q ≤ name_room names.new q + 1 }
 {
-    if let Some(n) = names.number_near(p, o, n, near) {
-        return Ok(n);
-    }
-    names.give(from_zero, p, o, n, near)
+    names.give(from_zero, p, o, near)
 }
 
 /// The process's name of the object goes, if it has one.

@@ -155,36 +155,29 @@ impl Names {
         }
     }
 
-    /// Sees to it that the process has a name for the object, which gets the least free number from 0 or from 1
-    /// if it is new.
+    /// A name for an object that the process has none for: with the least free number, from 0 or from 1, which it answers.
     pub fn give(
         &mut self,
         from_zero: bool,
         p: u64,
         o: Identity,
-        n: u32,
         near: usize,
     ) -> Result<u32, NumbersFull>
-        requires { 1 ≤ name_room self.old p }
-        ensures had { is_some (number_of self.old p o) ≡ true → self.new ≡ self.old }
+        requires room { 1 ≤ name_room self.old p }
+        requires lacks { number_of self.old p o ≡ None }
         ensures err { OnErr result (self.new ≡ self.old) }
-        ensures lacked { OnErr result (number_of self.old p o ≡ None) }
         ensures full { OnErr result ((m : ℕ) → (if from_zero then 0 else 1) ≤ m → m ≤ 4294967294
             → is_some (named_by self.old p m) ≡ true) }
-        ensures number { IfOk result (λ n. number_of self.new p o ≡ Some n) }
-        ensures free { number_of self.old p o ≡ None → IfOk result (λ n. IsFreeAt (if from_zero then 0 else 1) self.old.rows p n) }
-        ensures within { number_of self.old p o ≡ None → IfOk result (λ n. n ≤ 4294967294) }
-        ensures named { number_of self.old p o ≡ None → IfOk result (λ n. (q m : ℕ)
+        ensures free { IfOk result (λ n. IsFreeAt (if from_zero then 0 else 1) self.old.rows p n) }
+        ensures within { IfOk result (λ n. n ≤ 4294967294) }
+        ensures named { IfOk result (λ n. (q m : ℕ)
             → named_by self.new q m ≡ (if (p == q) && (n == m) then Some o else named_by self.old q m)) }
-        ensures numbers { number_of self.old p o ≡ None → IfOk result (λ n. (q : ℕ) (x : declared.Identity)
+        ensures numbers { IfOk result (λ n. (q : ℕ) (x : declared.Identity)
             → number_of self.new q x ≡ (if (p == q) && same o x then Some n else number_of self.old q x)) }
-        ensures names { number_of self.old p o ≡ None → OnOk result ((q : ℕ) (x : declared.Identity)
+        ensures names { OnOk result ((q : ℕ) (x : declared.Identity)
             → name_at self.new q x ≡ (if (p == q) && same o x then Some (new_row o) else name_at self.old q x)) }
         ensures uses { (q : ℕ) → name_room self.old q ≤ name_room self.new q + 1 }
     {
-        if let Some(n) = self.number_near(p, o, n, near) {
-            return Ok(n);
-        }
         let Some(n) = self.rows.free_number(p, from_zero, near) else {
             return Err(NumbersFull);
         };

@@ -1,9 +1,9 @@
-use Rattle.std.proofs.Common.{◌≡◌, refl, List, ◌++◌, Some, None, is_some, cond, sym, ap, ◌∙◌, subst, arith}
+use Rattle.std.proofs.Common.{◌≡◌, List, ◌++◌, Some, None, is_some, cond, sym, ap, ◌∙◌, subst, arith}
 use Rattle.bd_ways.specs.Words.{Name}
 use Rattle.bd_numbered.specs.Numbered.{value_at}
 use Rattle.bd_handles.proofs.Given.{new_name, one_given}
 use Rattle.bd_records.specs.{Counting.{asked_of, carried_of}, Names.{name_at, number_of}, Objects.{row_at}, NameRows.{object_of, new_row}, Slots.{on_slot}, Since.{IsBlank, AreBlank}}
-use Rattle.bd_records.proofs.{Naming.{shown_some}, Asked.{given_counts}, Given.{given_number, since_had, all_put, blank_more, here}}
+use Rattle.bd_records.proofs.{Naming.{shown_some}, Asked.{counts_named}, Given.{given_number, since_had, all_put, blank_more, here}}
 use Rattle.bd_records.proofs.records.Records.give_name.Goals as goal
 
 pub returns-in-Some-clause-names : goal.returns-in-Some-clause-names
@@ -19,11 +19,12 @@ returns-in-Some-clause-named c =
 pub returns-in-Ok-clause-stands : goal.returns-in-Ok-clause-stands
 returns-in-Ok-clause-stands c = λ objects l own h.
     let t = c.args.self.now.names in
+    let lacks : number_of t c.args.p c.args.o ≡ None = grind (arith, c.number_near.ensures, c.in_default.not-Some) in
     record {
       objects_are = h.objects_are;
       owners = h.owners;
       own = h.own;
-      counts = given_counts (row_at c.args.self.now.objects) t c.give_name.new.names c.args.p c.args.o objects l h.counts (number_of t c.args.p c.args.o) refl c.in-Ok.ensures.had c.in-Ok.ensures.rows;
+      counts = counts_named (row_at c.args.self.now.objects) (name_at t) (name_at c.give_name.new.names) c.args.p c.args.o objects l h.counts (ap (on_slot None (value_at t.rows c.args.p)) lacks) c.in-Ok.ensures.rows;
       held = h.held;
       few = h.few;
     }
@@ -39,7 +40,7 @@ returns-in-Ok-clause-names c = λ base names h.
     let given = c.args.self.now.given.items in
     let m : Name = record { process = p; number = n; object = o } in
     let lacks : number_of t p o ≡ None = grind (arith, c.number_near.ensures, c.in_default.not-Some) in
-    let rows = c.in-Ok.ensures.rows lacks in
+    let rows = c.in-Ok.ensures.rows in
     let put : name_at u p o ≡ Some (new_row o) = rows p o ∙ ap (λ b. cond b (Some (new_row o)) (name_at t p o)) (here p o) in
     let blank : IsBlank (name_at u p o) = (ap asked_of put, ap carried_of put) in
     let more = c.in-Ok.ensures.ok names h.stands in
