@@ -1,9 +1,9 @@
-mod Freeing
+pub mod Freeing
 pub mod FreeNumbers
-mod Given
+pub mod Given
 mod Leaving
 pub mod Limits
 mod Lookups
-mod Naming
+pub mod Naming
 mod Numbering
-mod Singles
+pub mod Singles

@@ -6,5 +6,6 @@ mod names;
 mod numbers;
 mod table;
 
+pub use keys::{ObjectKey, insert_number, number_of, remove_number};
 pub use numbers::NumbersFull;
 pub use table::NameTable;

@@ -1,0 +1,83 @@
+-- Names that were given since they were settled.
+use Rattle.std.proofs.Common.{◌≡◌, ℕ, ◌==◌, ◌≤◌, Bool, true, false, not, ◌&&◌, cond, List, [], ◌∷◌, ◌++◌, filter, Option, Some, None, is_some, refl, sym, ap, ◌∙◌, subst, append_assoc}
+use Rattle.std.specs.List.{count_by}
+use Rattle.std.proofs.lemmas.Bool.{eq-eqb}
+use Rattle.bd_ways.specs.Words.{Identity, Object, Reference, Name, same}
+use Rattle.bd_space.proofs.Identities.{same_self}
+use Rattle.bd_space.specs.References.{owned_in, is_asking}
+use Rattle.bd_space.specs.Names.{named_in, number_in}
+use Rattle.bd_handles.specs.{Numbers.{new_number, with_number}, Sound.{Sound, has_object}}
+use Rattle.bd_handles.proofs.{Naming.{came_number}, Freeing.{free_unnamed}, Singles.{last_dropped}}
+use Rattle.bd_records.specs.declared.{records.Records.{Records}, names.Names.{Names}, row.ObjectRow.{ObjectRow}, row.NameRow.{NameRow}}
+use Rattle.bd_records.specs.{Count.{no_count, of_strength}, Counting.{asked_of, carried_of, is_carrying}, NameRows.{new_row}, Names.{name_at, number_of}, NamesAre.{NamesAre}, Counted.{CountsAre}, Since.{IsBlank, AreBlank, Since}}
+
+-- ---- blank names
+
+pub blank_put : (b : Bool) (o : Identity) (w v : Option NameRow) → v ≡ cond b (Some (new_row o)) w → IsBlank w → IsBlank v
+blank_put true o w v e h = (ap asked_of e, ap carried_of e)
+blank_put false o w v e h = (ap asked_of e ∙ h.0, ap carried_of e ∙ h.1)
+
+pub blank_gone : (b : Bool) (w v : Option NameRow) → v ≡ cond b None w → IsBlank w → IsBlank v
+blank_gone true w v e h = (ap asked_of e, ap carried_of e)
+blank_gone false w v e h = (ap asked_of e ∙ h.0, ap carried_of e ∙ h.1)
+
+pub all_put : (t u : Names) (p : ℕ) (o : Identity) → ((q : ℕ) (x : Identity) → name_at u q x ≡ cond ((p == q) && same o x) (Some (new_row o)) (name_at t q x))
+    → (ms : List Name) → AreBlank t ms → AreBlank u ms
+all_put t u p o rows [] h = tt
+all_put t u p o rows (m ∷ ms) h = (blank_put ((p == m.process) && same o m.object) o (name_at t m.process m.object) (name_at u m.process m.object) (rows m.process m.object) h.0, all_put t u p o rows ms h.1)
+
+pub all_gone : (t u : Names) (p : ℕ) (o : Identity) → ((q : ℕ) (x : Identity) → name_at u q x ≡ cond ((p == q) && same o x) None (name_at t q x))
+    → (ms : List Name) → AreBlank t ms → AreBlank u ms
+all_gone t u p o rows [] h = tt
+all_gone t u p o rows (m ∷ ms) h = (blank_gone ((p == m.process) && same o m.object) (name_at t m.process m.object) (name_at u m.process m.object) (rows m.process m.object) h.0, all_gone t u p o rows ms h.1)
+
+pub all_kept : (t u : Names) → ((q : ℕ) (x : Identity) → name_at u q x ≡ name_at t q x) → (ms : List Name) → AreBlank t ms → AreBlank u ms
+all_kept t u rows [] h = tt
+all_kept t u rows (m ∷ ms) h = ((ap asked_of (rows m.process m.object) ∙ h.0.0, ap carried_of (rows m.process m.object) ∙ h.0.1), all_kept t u rows ms h.1)
+
+pub blank_more : (t : Names) (ms : List Name) (m : Name) → AreBlank t ms → IsBlank (name_at t m.process m.object) → AreBlank t (ms ++ m ∷ [])
+blank_more t [] m h k = (k, tt)
+blank_more t (n ∷ ms) m h k = (h.0, blank_more t ms m h.1 k)
+
+pub blank_last : (t : Names) (ms : List Name) (m : Name) → AreBlank t (ms ++ m ∷ []) → AreBlank t ms × IsBlank (name_at t m.process m.object)
+blank_last t [] m h = (tt, h.0)
+blank_last t (n ∷ ms) m h = let k = blank_last t ms m h.1 in ((h.0, k.0), k.1)
+
+-- ---- one comes
+
+pub here : (p : ℕ) (o : Identity) → ((p == p) && same o o) ≡ true
+here p o = rw (eq-eqb p p refl, same_self o) refl
+
+pub given_number : (t u : Names) (names : List Name) (zero : Bool) (p n : ℕ) (o : Identity) → NamesAre t names → number_of t p o ≡ None → NamesAre u (with_number zero p names o) → number_of u p o ≡ Some n
+    → n ≡ new_number zero p names
+given_number t u names zero p n o h lacks k is =
+    let new : number_in names p o ≡ None = h.numbers_are p o ∙ lacks in
+    let m : Name = record { process = p; number = new_number zero p names; object = o } in
+    let free : named_in names p (new_number zero p names) ≡ None = free_unnamed p names (cond zero 0 1) (new_number zero p names) refl in
+    let grown : with_number zero p names o ≡ names ++ m ∷ [] = ap (λ (x : Option ℕ). cond (is_some x) names (names ++ m ∷ [])) new in
+    let shown : number_in (names ++ m ∷ []) p o ≡ Some (new_number zero p names) = came_number names m h.sound free new p o ∙ ap (λ b. cond b (Some (new_number zero p names)) (number_in names p o)) (here p o) in
+    let told : Some (new_number zero p names) ≡ Some n = sym shown ∙ ap (λ (l : List Name). number_in l p o) (sym grown) ∙ k.numbers_are p o ∙ is in
+    cc
+
+pub since_had : (t : Records) (zero : Bool) (p : ℕ) (o : Identity) (base names : List Name) → Since t base names → is_some (number_of t.names p o) ≡ true → Since t base (with_number zero p names o)
+since_had t zero p o base names h had =
+    subst (Since t base) (sym (ap (λ b. cond b names (names ++ record { process = p; number = new_number zero p names; object = o } ∷ [])) (ap is_some (h.stands.numbers_are p o) ∙ had))) h
+
+-- ---- all go
+
+pub last_of : (base all given l : List Name) (m : Name) → Sound l → l ≡ base ++ all → all ≡ given ++ m ∷ [] → filter (λ k. not (has_object m.process m.object k)) l ≡ base ++ given
+last_of base all given l m h e k =
+    let key = has_object m.process m.object in
+    let is : l ≡ (base ++ given) ++ m ∷ [] = e ∙ ap (λ g. base ++ g) k ∙ sym (append_assoc base given (m ∷ [])) in
+    let pass : key m ≡ true = rw (eq-eqb m.process m.process refl, same_self m.object) refl in
+    ap (filter (λ x. not (key x))) is ∙ last_dropped key (base ++ given) m pass (subst (λ xs. count_by key xs ≤ 1) is (h.one_name m.process m.object))
+
+zero_counts : (s : Bool) → of_strength s no_count ≡ 0
+zero_counts true = refl
+zero_counts false = refl
+
+-- a blank name counts nothing
+pub blank_counts : (O : Identity → Option ObjectRow) (N : ℕ → Identity → Option NameRow) (objects : List Object) (l : List Reference) → CountsAre O N objects l → (p : ℕ) (o : Identity) → IsBlank (N p o)
+    → (s : Bool) → owned_in objects p o ≡ false → (count_by (is_asking p o s) l ≡ 0) × (count_by (is_carrying p o s) l ≡ 0)
+blank_counts O N objects l h p o blank s free =
+    (sym (h.asked p o s) ∙ ap (of_strength s) blank.0 ∙ zero_counts s, sym (h.carried p o s free) ∙ ap (of_strength s) blank.1 ∙ zero_counts s)

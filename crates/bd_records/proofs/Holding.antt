@@ -1,0 +1,147 @@
+-- What is kept and what is told of objects and references.
+use Rattle.std.proofs.Common.{◌≡◌, ℕ, ◌-◌, ◌==◌, nat_lt, Bool, true, false, not, cond, ◌&&◌, ◌||◌, List, [], ◌∷◌, Option, Some, None, refl, sym, ap, ◌∙◌, arith, count_by}
+use Rattle.std.proofs.lemmas.Bool.{eqb-true}
+use Rattle.std.specs.{Prelude.{option_map}, List.{list_any}}
+use Rattle.bd_ways.specs.Words.{beq, Identity, Object, Reference, Holder, Asked, Carried, Target, Handshake, Manager, same, without_first}
+use Rattle.bd_space.specs.References.{is_asking, is_shaking, is_asked_by, is_handshake, gives_name_to, held_in, strong_in}
+use Rattle.bd_space.proofs.Identities.{same_eq}
+use Rattle.bd_records.specs.declared.{count.Count.{Count}, row.ObjectRow.{ObjectRow}}
+use Rattle.bd_records.specs.Count.{of_strength, is_empty}
+use Rattle.bd_records.specs.Counting.{turned, is_to, is_carrying, is_carried_to}
+use Rattle.bd_records.specs.Buffers.{is_held}
+use Rattle.bd_records.specs.Records.{is_owner}
+use Rattle.bd_records.proofs.Tallies.{Test, on, count_first}
+use Rattle.bd_records.proofs.Lists.{any_counts, found_is, found_passes}
+
+-- ---- objects stay as they are
+
+module _ (O O' : Identity → Option ObjectRow) (more : Bool) (r : Reference)
+    (os : (o : Identity) → O' o ≡ cond (same r.object o) (option_map (turned more r) (O o)) (O o)) where
+  kept_object : (b m : Bool) (w : Option ObjectRow) → option_map (λ (v : ObjectRow). v.object) (cond b (option_map (turned m r) w) w) ≡ option_map (λ (v : ObjectRow). v.object) w
+  kept_object false m w = refl
+  kept_object true m None = refl
+  kept_object true true (Some v) = refl
+  kept_object true false (Some v) = refl
+
+  pub objects_same : (o : Identity) → option_map (λ (v : ObjectRow). v.object) (O' o) ≡ option_map (λ (v : ObjectRow). v.object) (O o)
+  objects_same o = ap (option_map (λ (v : ObjectRow). v.object)) (os o) ∙ kept_object (same r.object o) more (O o)
+
+  owner_is : (p : ℕ) (w : Option ObjectRow) → is_owner p w ≡ (elim (option_map (λ (v : ObjectRow). v.object) w) [ None ↦ false | Some x ↦ x.owner == p ])
+  owner_is p None = refl
+  owner_is p (Some v) = refl
+
+  pub owners_same : (p : ℕ) (o : Identity) → is_owner p (O' o) ≡ is_owner p (O o)
+  owners_same p o = owner_is p (O' o) ∙ ap (λ (x : Option Object). elim x [ None ↦ false | Some x ↦ x.owner == p ]) (objects_same o) ∙ sym (owner_is p (O o))
+
+-- ---- which reference goes
+
+beq_eq : (a b : Bool) → beq a b ≡ true → a ≡ b
+beq_eq true true h = refl
+beq_eq true false h = absurd cc
+beq_eq false true h = absurd cc
+beq_eq false false h = refl
+
+asked_is : (p : ℕ) (h : Holder) → is_asked_by p h ≡ true → h ≡ Asked p
+asked_is p (Asked q) e = ap Asked (eqb-true q p e)
+asked_is p (Carried c q) e = absurd cc
+asked_is p (Target c q) e = absurd cc
+asked_is p Handshake e = absurd cc
+asked_is p Manager e = absurd cc
+
+shaken_is : (h : Holder) → is_handshake h ≡ true → h ≡ Handshake
+shaken_is (Asked q) e = absurd cc
+shaken_is (Carried c q) e = absurd cc
+shaken_is (Target c q) e = absurd cc
+shaken_is Handshake e = refl
+shaken_is Manager e = absurd cc
+
+-- those that pass are alike for each counter, so it is the same which one goes
+module _ (p : Reference → Bool) (r : Reference) (alike : (x : Reference) → p x ≡ true → (x.object ≡ r.object) × (x.strong ≡ r.strong) × (x.holder ≡ r.holder)) where
+  pub goes : (l : List Reference) → list_any p l ≡ true → (g : Test) → count_by (on g) (without_first p l) ≡ count_by (on g) l - cond (on g r) 1 0
+  goes l any g =
+      let f = found_is p l any in
+      let a = alike f.0 (found_passes p l f.0 f.1) in
+      count_first p (on g) l f.0 f.1 ∙ ap (λ b. count_by (on g) l - cond b 1 0) (same_test f.0 a.0 a.1 a.2)
+    where
+      same_test : (x : Reference) → x.object ≡ r.object → x.strong ≡ r.strong → x.holder ≡ r.holder → on g x ≡ on g r
+      same_test x a b c = (λ i. g (a i) (b i) (c i))
+
+pub asking_alike : (p : ℕ) (o : Identity) (s : Bool) (x : Reference) → is_asking p o s x ≡ true → (x.object ≡ o) × (x.strong ≡ s) × (x.holder ≡ Asked p)
+asking_alike p o s x e = (same_eq x.object o (grind (arith, e)), beq_eq x.strong s (grind (arith, e)), asked_is p x.holder (grind (arith, e)))
+
+pub shaking_alike : (o : Identity) (s : Bool) (x : Reference) → is_shaking o s x ≡ true → (x.object ≡ o) × (x.strong ≡ s) × (x.holder ≡ Handshake)
+shaking_alike o s x e = (same_eq x.object o (grind (arith, e)), beq_eq x.strong s (grind (arith, e)), shaken_is x.holder (grind (arith, e)))
+
+-- no buffer holds it
+pub asked_off : (p : ℕ) (o : Identity) (s : Bool) (x : Reference) → is_asking p o s x ≡ true → is_held x ≡ false
+asked_off p o s x e = let a = asking_alike p o s x e in grind (arith, a.2)
+
+pub shaken_off : (o : Identity) (s : Bool) (x : Reference) → is_shaking o s x ≡ true → is_held x ≡ false
+shaken_off o s x e = let a = shaking_alike o s x e in grind (arith, a.2)
+
+-- ---- what counts tell
+
+any_either : (p q t : Reference → Bool) → ((x : Reference) → p x ≡ (q x || t x)) → (l : List Reference) → list_any p l ≡ (list_any q l || list_any t l)
+any_either p q t same [] = refl
+any_either p q t same (x ∷ l) = grind (arith, any_either p q t same l, same x)
+
+any_alike : (p q : Reference → Bool) → ((x : Reference) → p x ≡ q x) → (l : List Reference) → list_any p l ≡ list_any q l
+any_alike p q same [] = refl
+any_alike p q same (x ∷ l) = grind (arith, any_alike p q same l, same x)
+
+either : (a b : Bool) → b ≡ ((beq a false && b) || (beq a true && b))
+either true true = refl
+either true false = refl
+either false true = refl
+either false false = refl
+
+pub not_empty : (c : Count) (n m : ℕ) → of_strength false c ≡ n → of_strength true c ≡ m → not (is_empty c) ≡ (nat_lt 0 n || nat_lt 0 m)
+not_empty c n m e f = grind (arith, e, f)
+
+pub held_counts : (o : Identity) (l : List Reference) → held_in l o ≡ (nat_lt 0 (count_by (is_to o false) l) || nat_lt 0 (count_by (is_to o true) l))
+held_counts o l =
+    any_either (λ r. same r.object o) (is_to o false) (is_to o true) (λ x. either x.strong (same x.object o)) l
+    ∙ (λ i. any_counts (is_to o false) l i || any_counts (is_to o true) l i)
+
+strong_test : (a b : Bool) → (a && b) ≡ (beq a true && b)
+strong_test true b = refl
+strong_test false b = refl
+
+pub strong_counts : (o : Identity) (l : List Reference) → strong_in l o ≡ nat_lt 0 (count_by (is_to o true) l)
+strong_counts o l = any_alike (λ r. r.strong && same r.object o) (is_to o true) (λ x. strong_test x.strong (same x.object o)) l ∙ any_counts (is_to o true) l
+
+name_test : (p : ℕ) (h : Holder) → gives_name_to p h ≡ (is_asked_by p h || is_carried_to p h)
+name_test p (Asked q) = grind arith
+name_test p (Carried c q) = grind arith
+name_test p (Target c q) = refl
+name_test p Handshake = refl
+name_test p Manager = refl
+
+pub refers_counts : (p : ℕ) (o : Identity) (l : List Reference) → list_any (λ r. same r.object o && gives_name_to p r.holder) l
+    ≡ ((nat_lt 0 (count_by (is_asking p o false) l) || nat_lt 0 (count_by (is_asking p o true) l)) || (nat_lt 0 (count_by (is_carrying p o false) l) || nat_lt 0 (count_by (is_carrying p o true) l)))
+refers_counts p o l =
+    any_either (λ r. same r.object o && gives_name_to p r.holder) (λ r. same r.object o && is_asked_by p r.holder) (λ r. same r.object o && is_carried_to p r.holder)
+    (λ x. grind (arith, name_test p x.holder)) l
+    ∙ (λ i. any_either (λ r. same r.object o && is_asked_by p r.holder) (is_asking p o false) (is_asking p o true) (λ x. grind (arith, either x.strong (same x.object o && is_asked_by p x.holder))) l i
+    || any_either (λ r. same r.object o && is_carried_to p r.holder) (is_carrying p o false) (is_carrying p o true) (λ x. grind (arith, either x.strong (same x.object o && is_carried_to p x.holder))) l i)
+    ∙ (λ i. (any_counts (is_asking p o false) l i || any_counts (is_asking p o true) l i) || (any_counts (is_carrying p o false) l i || any_counts (is_carrying p o true) l i))
+
+pub strongly_counts : (p : ℕ) (o : Identity) (l : List Reference) → list_any (λ r. r.strong && same r.object o && gives_name_to p r.holder) l
+    ≡ (nat_lt 0 (count_by (is_asking p o true) l) || nat_lt 0 (count_by (is_carrying p o true) l))
+strongly_counts p o l =
+    any_either (λ r. r.strong && same r.object o && gives_name_to p r.holder) (is_asking p o true) (is_carrying p o true)
+    (λ x. test x.strong (same x.object o) (gives_name_to p x.holder) (is_asked_by p x.holder) (is_carried_to p x.holder) (name_test p x.holder)) l
+    ∙ (λ i. any_counts (is_asking p o true) l i || any_counts (is_carrying p o true) l i)
+  where
+    test : (a b d e f : Bool) → d ≡ (e || f) → (a && b && d) ≡ ((beq a true && b && e) || (beq a true && b && f))
+    test true true d e f h = h
+    test true false d e f h = refl
+    test false b d e f h = refl
+
+pub or_true : (a b : Bool) → a ≡ true → (a || b) ≡ true
+or_true true b h = refl
+or_true false b h = absurd cc
+
+pub or_false : (a b : Bool) → a ≡ false → (a || b) ≡ b
+or_false true b h = absurd cc
+or_false false b h = refl

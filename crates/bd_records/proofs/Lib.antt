@@ -1,0 +1,14 @@
+mod Keyed
+mod Naming
+mod Tallies
+mod Lists
+mod Buffering
+mod Holding
+mod Named
+mod Asked
+mod Coming
+mod Telling
+mod Disowning
+mod Possessing
+mod Given
+mod Forgetting

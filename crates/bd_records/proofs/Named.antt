@@ -1,0 +1,138 @@
+-- A space's names, when a record came or went.
+use Rattle.std.proofs.Common.{◌≡◌, ℕ, ◌<◌, ◌≤◌, ◌==◌, ◌&&◌, Bool, true, false, not, cond, List, [], ◌∷◌, ◌++◌, filter, Option, Some, None, is_some, refl, sym, ap, ◌∙◌, subst, arith, Result, Ok, Err, IfOk, OnOk, OnErr, IfSome, ◌^◌, inl, inr}
+use Rattle.std.specs.Prelude.{nat_lt, IfNone}
+use Rattle.std.proofs.lemmas.Bool.Decides.{nat_tests}
+use Rattle.std.proofs.lemmas.Bool.{and_parts, eqb-true, eq-eqb, cases_lt}
+use Rattle.bd_space.proofs.Identities.{same_eq, same_self}
+use Rattle.bd_ways.specs.Words.{Identity, Name, same}
+use Rattle.bd_space.specs.Names.{named_in, number_in}
+use Rattle.bd_records.specs.{declared.names.Names.{Names}, Names.{named_by, number_of}, NamesAre.{NamesAre, KeepsNames}}
+use Rattle.bd_numbered.specs.Numbered.{value_at, IsFreeAt}
+use Rattle.bd_chains.specs.Chain.{is_at}
+use Rattle.bd_keys.specs.Tables.{Makes}
+use Rattle.std.specs.Prelude.{option_map}
+use Rattle.bd_records.specs.NameRows.{object_of}
+use Rattle.bd_handles.specs.{Numbers.{new_number, with_number, IsFull, IsNextNumber}, Sound.{has_object}}
+use Rattle.bd_handles.proofs.{Limits.{fits_push, fits_filter, past_unnamed}, FreeNumbers.{free_first, free_past}, Freeing.{used_named, free_unnamed}}
+use Rattle.bd_handles.proofs.Naming.{came_sound, came_object, came_number, gone_sound, gone_object, gone_number, none_gone}
+
+abbrev name : ℕ → ℕ → Identity → Name
+name p n o = record { process = p; number = n; object = o }
+
+-- a number that is free while those below aren't is what the definition gives
+pub new_is : (t : Names) (l : List Name) → NamesAre t l → (zero : Bool) (p n : ℕ) → named_by t p n ≡ None → cond zero 0 1 ≤ n → ((m : ℕ) → cond zero 0 1 ≤ m → m < n → is_some (named_by t p m) ≡ true)
+    → n ≡ new_number zero p l
+new_is t l h zero p n free from before =
+    free_first p l (cond zero 0 1) n from (λ i a b. used_named p l i ∙ ap is_some (h.objects_are p i) ∙ before i a b) (used_named p l n ∙ ap is_some (h.objects_are p n ∙ free))
+
+pub past_is : (t : Names) (l : List Name) → NamesAre t l → (zero : Bool) (p : ℕ) → ((m : ℕ) → cond zero 0 1 ≤ m → m ≤ 4294967294 → is_some (named_by t p m) ≡ true) → 4294967294 < new_number zero p l
+past_is t l h zero p full =
+    let past = free_past p l (cond zero 0 1) 4294967295 (λ i a b. used_named p l i ∙ ap is_some (h.objects_are p i) ∙ full i a (omega (arith, b))) in
+    omega (arith, past)
+
+-- a name comes, with the number that it gets
+pub given : (t u : Names) (l : List Name) (zero : Bool) (p n : ℕ) (o : Identity) → NamesAre t l → n ≤ 4294967294 → number_of t p o ≡ None → n ≡ new_number zero p l
+    → ((q m : ℕ) → named_by u q m ≡ cond ((p == q) && (n == m)) (Some o) (named_by t q m))
+    → ((q : ℕ) (x : Identity) → number_of u q x ≡ cond ((p == q) && same o x) (Some n) (number_of t q x))
+    → NamesAre u (with_number zero p l o)
+given t u l zero p n o h small lacks is objects numbers = subst (NamesAre u) (new_list (number_in l p o) (h.numbers_are p o ∙ lacks)) came
+  where
+    within : nat_lt 4294967294 n ≡ false
+    within = grind (arith, nat_tests)
+
+    free : named_in l p n ≡ None
+    free = free_unnamed p l (cond zero 0 1) n is
+
+    new : number_in l p o ≡ None
+    new = h.numbers_are p o ∙ lacks
+
+    came : NamesAre u (l ++ name p n o ∷ [])
+    came = record {
+      sound = came_sound l (name p n o) h.sound free new;
+      objects_are = λ q m. came_object l (name p n o) h.sound free new q m ∙ ap (λ y. cond {A = Option Identity} ((p == q) && (n == m)) (Some o) y) (h.objects_are q m) ∙ sym (objects q m);
+      numbers_are = λ q x. came_number l (name p n o) h.sound free new q x ∙ ap (λ y. cond {A = Option ℕ} ((p == q) && same o x) (Some n) y) (h.numbers_are q x) ∙ sym (numbers q x);
+      fits = fits_push l (name p n o) h.fits within;
+    }
+
+    new_list : (x : Option ℕ) → number_in l p o ≡ None → l ++ name p n o ∷ [] ≡ with_number zero p l o
+    new_list x e = rw e (ap (λ k. l ++ name p k o ∷ []) is)
+
+-- a name goes
+pub taken : (t u : Names) (l : List Name) (p n : ℕ) (o : Identity) → NamesAre t l → number_of t p o ≡ Some n
+    → ((q m : ℕ) → named_by u q m ≡ cond ((p == q) && (n == m)) None (named_by t q m))
+    → ((q : ℕ) (x : Identity) → number_of u q x ≡ cond ((p == q) && same o x) None (number_of t q x))
+    → NamesAre u (filter (λ m. not (has_object p o m)) l)
+taken t u l p n o h has objects numbers =
+    let here = h.numbers_are p o ∙ has in
+    record {
+      sound = gone_sound l (λ m. not (has_object p o m)) h.sound;
+      objects_are = λ q m. gone_object l h.sound p o n here q m ∙ ap (λ y. cond {A = Option Identity} ((p == q) && (n == m)) None y) (h.objects_are q m) ∙ sym (objects q m);
+      numbers_are = λ q x. gone_number l h.sound p o n here q x ∙ ap (λ y. cond {A = Option ℕ} ((p == q) && same o x) None y) (h.numbers_are q x) ∙ sym (numbers q x);
+      fits = fits_filter (λ m. not (has_object p o m)) l h.fits;
+    }
+
+-- nothing goes where there is none
+pub none_taken : (t u : Names) (l : List Name) (p : ℕ) (o : Identity) → NamesAre t l → number_of t p o ≡ None
+    → ((q m : ℕ) → named_by u q m ≡ named_by t q m) → ((q : ℕ) (x : Identity) → number_of u q x ≡ number_of t q x)
+    → NamesAre u (filter (λ m. not (has_object p o m)) l)
+none_taken t u l p o h none objects numbers =
+    subst (NamesAre u) (sym (none_gone l h.sound p o (h.numbers_are p o ∙ none)))
+    (record { sound = h.sound; objects_are = λ q m. h.objects_are q m ∙ sym (objects q m); numbers_are = λ q x. h.numbers_are q x ∙ sym (numbers q x); fits = h.fits })
+
+some_shown : {A B : Type 0} (f : A → B) (v : Option A) → is_some (option_map f v) ≡ is_some v
+some_shown f None = refl
+some_shown f (Some x) = refl
+
+-- a new name's number, or that there is none, as the definition has it
+pub ok_given : {E : Type 0} (r : Result ℕ E) (t u : Names) (zero : Bool) (p : ℕ) (o : Identity) → number_of t p o ≡ None
+    → IfOk r (λ n. IsFreeAt (cond zero 0 1) t.rows p n) → IfOk r (λ n. n ≤ 4294967294)
+    → IfOk r (λ n. (q m : ℕ) → named_by u q m ≡ cond ((p == q) && (n == m)) (Some o) (named_by t q m))
+    → IfOk r (λ n. (q : ℕ) (x : Identity) → number_of u q x ≡ cond ((p == q) && same o x) (Some n) (number_of t q x))
+    → OnOk r (Makes (NamesAre t) (NamesAre u) (λ l. with_number zero p l o))
+ok_given (Err e) t u zero p o lacks free small objects numbers = tt
+ok_given (Ok n) t u zero p o lacks free small objects numbers = λ l h.
+    given t u l zero p n o h small lacks
+    (new_is t l h zero p n (ap (option_map object_of) free.free) free.from (λ m a b. some_shown object_of (value_at t.rows p m) ∙ free.before m a b))
+    objects numbers
+
+pub full_given : {E : Type 0} (r : Result ℕ E) (t : Names) (zero : Bool) (p : ℕ) (o : Identity)
+    → number_of t p o ≡ None → OnErr r ((m : ℕ) → cond zero 0 1 ≤ m → m ≤ 4294967294 → is_some (named_by t p m) ≡ true)
+    → OnErr r ((l : List Name) → NamesAre t l → IsFull zero p l o)
+full_given (Ok n) t zero p o lacks full = tt
+full_given (Err e) t zero p o lacks full = λ l h. record { lacks = h.numbers_are p o ∙ lacks; past = past_is t l h zero p full }
+
+-- the name goes that there is, if there is one
+pub gone : (t u : Names) (p : ℕ) (o : Identity) (k : Option ℕ) → number_of t p o ≡ k
+    → ((q m : ℕ) → named_by u q m ≡ cond ((p == q) && is_at m k) None (named_by t q m))
+    → ((q : ℕ) (x : Identity) → number_of u q x ≡ cond ((p == q) && same o x) None (number_of t q x))
+    → (l : List Name) → NamesAre t l → NamesAre u (filter (λ m. not (has_object p o m)) l)
+gone t u p o (Some n) is objects numbers l h = taken t u l p n o h is objects numbers
+gone t u p o None is objects numbers l h = none_taken t u l p o h is (λ q m. grind (arith, objects q m)) (λ q x. at q x ((p == q) && same o x) refl)
+  where
+    at : (q : ℕ) (x : Identity) (b : Bool) → ((p == q) && same o x) ≡ b → number_of u q x ≡ number_of t q x
+    at q x false e = grind (arith, numbers q x, e)
+    at q x true e =
+        let k = and_parts (p == q) (same o x) e in
+        let other : number_of t q x ≡ None = subst (λ y. number_of t q y ≡ None) (same_eq o x k.1) (subst (λ y. number_of t y o ≡ None) (eqb-true p q k.0) is) in
+        grind (arith, numbers q x, e, other)
+
+pub names_kept : (t u : Names) → ((q m : ℕ) → named_by u q m ≡ named_by t q m) → ((q : ℕ) (x : Identity) → number_of u q x ≡ number_of t q x) → KeepsNames t u
+names_kept t u objects numbers l h = record { sound = h.sound; objects_are = λ q m. h.objects_are q m ∙ sym (objects q m); numbers_are = λ q x. h.numbers_are q x ∙ sym (numbers q x); fits = h.fits }
+
+-- the next number in the records is the next that names something
+pub next_is : (t : Names) (l : List Name) → NamesAre t l → (p from : ℕ) (r : Option ℕ)
+    → IfNone r ((m : ℕ) → from ≤ m → m < 2 ^ 32 → named_by t p m ≡ None) → IfSome r (λ n. from ≤ n) → IfSome r (λ n. is_some (named_by t p n) ≡ true)
+    → IfSome r (λ n. (m : ℕ) → from ≤ m → m < n → named_by t p m ≡ None) → IsNextNumber l p from r
+next_is t l h p from None none le there before = λ n le. elim (cases_lt n 4294967296) [
+  | inl lt ↦ h.objects_are p n ∙ none n le (omega (arith, lt))
+  | inr ge ↦ past_unnamed l h.fits p n (omega (arith, ge))
+]
+next_is t l h p from (Some n) none le there before = (le, ap is_some (h.objects_are p n) ∙ there, λ m le lt. h.objects_are p m ∙ before m le lt)
+
+-- the object's number is the one that was answered
+pub here_number : {E : Type 0} (r : Result ℕ E) (p : ℕ) (o : Identity) (N M : ℕ → Identity → Option ℕ) → IfOk r (λ n. (q : ℕ) (x : Identity) → M q x ≡ cond ((p == q) && same o x) (Some n) (N q x)) → IfOk r (λ n. M p o ≡ Some n)
+here_number (Err e) p o N M h = tt
+here_number (Ok n) p o N M h = h p o ∙ ap (λ b. cond b (Some n) (N p o)) here
+  where
+    here : ((p == p) && same o o) ≡ true
+    here = rw (eq-eqb p p refl, same_self o) refl

@@ -1,0 +1,119 @@
+-- What an object's owner was told.
+use Rattle.std.proofs.Common.{◌≡◌, ℕ, ◌==◌, map, Bool, true, false, ◌&&◌, ◌||◌, cond, List, [], ◌∷◌, Option, Some, None, refl, ap, sym, ◌∙◌, subst, arith}
+use Rattle.std.specs.Prelude.{option_map}
+use Rattle.bd_ways.specs.Words.{Identity, Object, Reference, same, changed}
+use Rattle.bd_space.specs.References.{object_in, owned_in}
+use Rattle.bd_space.proofs.Identities.{same_eq}
+use Rattle.bd_records.specs.declared.{row.ObjectRow.{ObjectRow}, row.NameRow.{NameRow}}
+use Rattle.bd_records.specs.Count.{of_strength}
+use Rattle.bd_records.specs.Counting.{told, total_of, owed_of, managed_of}
+use Rattle.bd_records.specs.{Counted.{CountsAre}, Records.{is_owner}}
+use Rattle.bd_keys.specs.Keys.{same_word}
+use Rattle.bd_keys.proofs.Keys.{word_eq, word_self}
+use Rattle.bd_nodes.specs.Keys.{id_key, own_key}
+use Rattle.bd_nodes.proofs.Distinct.{changed_distinct}
+use Rattle.bd_nodes.proofs.Maps.{finds_hidden}
+use Rattle.bd_records.specs.{declared.owned.Owned.{Owned}, Owned.{OwnedAre, possession, id_at}}
+use Rattle.bd_records.proofs.Coming.{object_of, both_same}
+
+module _ (weak strong : Bool) (o : Identity) where
+  abbrev tell : Object → Object
+  tell x = record x { told_weak = weak; told_strong = strong }
+
+  abbrev pub retold : List Object → List Object
+  retold objects = changed (λ x. same x.id o) (λ x. record x { told_weak = weak; told_strong = strong }) objects
+
+  pub object_told : (objects : List Object) (y : Identity) → object_in (retold objects) y ≡ cond (same o y) (option_map tell (object_in objects y)) (object_in objects y)
+  object_told [] y = none (same o y)
+    where
+      none : (b : Bool) → None ≡ cond b (option_map tell None) None
+      none true = refl
+      none false = refl
+  object_told (x ∷ xs) y = at (same x.id o) refl (same o y) refl (same x.id y) refl (object_told xs y)
+    where
+      at : (a : Bool) → same x.id o ≡ a → (b : Bool) → same o y ≡ b → (c : Bool) → same x.id y ≡ c → object_in (retold xs) y ≡ cond (same o y) (option_map tell (object_in xs y)) (object_in xs y)
+          → object_in (cond a (tell x) x ∷ retold xs) y ≡ cond b (option_map tell (cond c (Some x) (object_in xs y))) (cond c (Some x) (object_in xs y))
+      at true e true f true g more = grind (arith, g)
+      at true e true f false g more = grind (arith, g, more, f)
+      at true e false f true g more = absurd (let h = subst (λ z. same z y ≡ true) (same_eq x.id o e) g in cc)
+      at true e false f false g more = grind (arith, g, more, f)
+      at false e true f true g more = absurd (let h = both_same x.id o y g f in cc)
+      at false e true f false g more = grind (arith, g, more, f)
+      at false e false f true g more = grind (arith, g)
+      at false e false f false g more = grind (arith, g, more, f)
+
+  pub owned_told : (objects : List Object) (p : ℕ) (y : Identity) → owned_in (retold objects) p y ≡ owned_in objects p y
+  owned_told [] p y = refl
+  owned_told (x ∷ xs) p y = at (same x.id o) (owned_told xs p y)
+    where
+      at : (a : Bool) → owned_in (retold xs) p y ≡ owned_in xs p y → owned_in (cond a (tell x) x ∷ retold xs) p y ≡ owned_in (x ∷ xs) p y
+      at true more = ap (λ b. (same x.id y && (x.owner == p)) || b) more
+      at false more = ap (λ b. (same x.id y && (x.owner == p)) || b) more
+
+  possessions_told : (objects : List Object) → map possession (retold objects) ≡ map possession objects
+  possessions_told [] = refl
+  possessions_told (x ∷ xs) = at (same x.id o) (possessions_told xs)
+    where
+      at : (a : Bool) → map possession (retold xs) ≡ map possession xs → map possession (cond a (tell x) x ∷ retold xs) ≡ map possession (x ∷ xs)
+      at true more = ap (λ vs. possession x ∷ vs) more
+      at false more = ap (λ vs. possession x ∷ vs) more
+
+  -- neither identities nor pointers change
+  pub told_owned : (t : Owned) (objects : List Object) → OwnedAre t objects → OwnedAre t (retold objects)
+  told_owned t objects h = record {
+    found = finds_hidden own_key same_word word_eq word_self (λ y. y.id) (id_at t) objects (λ x. same x.id o) tell (λ y. refl) (λ y. refl) h.found;
+    ids = changed_distinct id_key same (λ x. same x.id o) tell (λ y. refl) objects h.ids;
+    ptrs = changed_distinct own_key same_word (λ x. same x.id o) tell (λ y. refl) objects h.ptrs;
+    rows = h.rows;
+    shows = h.shows;
+    are = h.are ∙ sym (possessions_told objects);
+    spots = h.spots;
+  }
+
+  module _ (O O' : Identity → Option ObjectRow) (N : ℕ → Identity → Option NameRow) (objects : List Object) (l : List Reference) (h : CountsAre O N objects l)
+      (are : (y : Identity) → object_in objects y ≡ option_map object_of (O y)) (owners : (p : ℕ) (y : Identity) → owned_in objects p y ≡ is_owner p (O y))
+      (rows : (y : Identity) → O' y ≡ cond (same o y) (option_map (told weak strong) (O y)) (O y)) where
+    pub told_objects : (y : Identity) → object_in (retold objects) y ≡ option_map object_of (O' y)
+    told_objects y = object_told objects y ∙ at (same o y) refl (O y) refl
+      where
+        at : (b : Bool) → same o y ≡ b → (w : Option ObjectRow) → O y ≡ w → cond b (option_map tell (object_in objects y)) (object_in objects y) ≡ option_map object_of (O' y)
+        at true e None f = grind (arith, rows y, e, are y, f)
+        at true e (Some v) f = grind (arith, rows y, e, are y, f)
+        at false e w f = grind (arith, rows y, e, are y)
+
+    kept : {A : Type 0} (f : Option ObjectRow → A) → ((w : Option ObjectRow) → f (option_map (told weak strong) w) ≡ f w) → (y : Identity) → f (O' y) ≡ f (O y)
+    kept f alike y = ap f (rows y) ∙ at (same o y)
+      where
+        at : (b : Bool) → f (cond b (option_map (told weak strong) (O y)) (O y)) ≡ f (O y)
+        at true = alike (O y)
+        at false = refl
+
+    owner_kept : (p : ℕ) (w : Option ObjectRow) → is_owner p (option_map (told weak strong) w) ≡ is_owner p w
+    owner_kept p None = refl
+    owner_kept p (Some v) = refl
+
+    total_kept : (w : Option ObjectRow) → total_of (option_map (told weak strong) w) ≡ total_of w
+    total_kept None = refl
+    total_kept (Some v) = refl
+
+    owed_kept : (w : Option ObjectRow) → owed_of (option_map (told weak strong) w) ≡ owed_of w
+    owed_kept None = refl
+    owed_kept (Some v) = refl
+
+    managed_kept : (w : Option ObjectRow) → managed_of (option_map (told weak strong) w) ≡ managed_of w
+    managed_kept None = refl
+    managed_kept (Some v) = refl
+
+    pub told_owners : (p : ℕ) (y : Identity) → owned_in (retold objects) p y ≡ is_owner p (O' y)
+    told_owners p y = owned_told objects p y ∙ owners p y ∙ sym (kept (is_owner p) (owner_kept p) y)
+
+    pub told_counts : CountsAre O' N (retold objects) l
+    told_counts = record {
+      totals = λ y s. ap (of_strength s) (kept total_of total_kept y) ∙ h.totals y s;
+      owed = λ y s. ap (of_strength s) (kept owed_of owed_kept y) ∙ h.owed y s;
+      managed = λ y s. ap (of_strength s) (kept managed_of managed_kept y) ∙ h.managed y s;
+      asked = h.asked;
+      unasked = λ p y s own. h.unasked p y s (sym (owned_told objects p y) ∙ own);
+      carried = λ p y s free. h.carried p y s (sym (owned_told objects p y) ∙ free);
+      carried_few = h.carried_few;
+    }

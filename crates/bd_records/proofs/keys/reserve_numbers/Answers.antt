@@ -1,0 +1,7 @@
+use Rattle.bd_handles.specs.declared.keys.ObjectKey.{ObjectKey}
+use Rattle.bd_records.proofs.keys.reserve_numbers.Goals as goal
+
+pub returns-clause-same : goal.returns-clause-same
+returns-clause-same c = λ q x.
+    let k : ObjectKey = record { process = q; object = x } in
+    c.reserve.ensures.entries.2 k

@@ -1,0 +1,55 @@
+use Rattle.std.proofs.Common.{◌≡◌, ◌==◌, cond, ◌&&◌, None, sym, refl, ◌∙◌, arith}
+use Rattle.std.specs.Prelude.{option_map}
+use Rattle.bd_ways.specs.Words.{Identity, same}
+use Rattle.bd_numbered.specs.Numbered.{value_at}
+use Rattle.bd_handles.specs.Keys.{number_at}
+use Rattle.bd_records.specs.{NameRows.{object_of}, Slots.{on_slot}}
+use Rattle.bd_records.proofs.Naming.{by_process, own_process, written, shown_some, same_slots}
+use Rattle.bd_records.proofs.Keyed.{set_found, set_leads, set_at, AreFound, Lead}
+use Rattle.bd_records.proofs.names.Names.set.Goals as goal
+
+pub set-requires : goal.set-requires
+set-requires c =
+    let t = c.args.self.now in
+    shown_some object_of (value_at t.rows c.args.p c.in-Some.k) c.args.row.object (t.leads c.args.p c.args.row.object c.in-Some.k (sym c.number_near.ensures ∙ c.in-Some.is))
+
+pub invariant_of-self-clause-found : goal.invariant_of-self-clause-found
+invariant_of-self-clause-found c =
+    let t = c.args.self.now in
+    let p = c.args.p in
+    let k = c.in-Some.k in
+    let at = sym c.number_near.ensures ∙ c.in-Some.is in
+    let here = shown_some object_of (value_at t.rows p k) c.args.row.object (t.leads p c.args.row.object k at) in
+    by_process (λ q. AreFound (λ j. option_map object_of (value_at c.set.new.self q j)) (number_at t.numbers q)) p
+    (set_found object_of (value_at t.rows p) (value_at c.set.new.self p) (number_at t.numbers p) (number_at t.numbers p) c.args.row.object k (t.found p) (t.leads p) at (λ _. c.args.row) (λ v e. refl)
+    (written (value_at t.rows p) (value_at c.set.new.self p) k c.args.row here (λ j. grind (arith, c.set.ensures.set p j, own_process p))))
+    (λ q off x j e. t.found q x j (grind (arith, e, c.set.ensures.set q j, off)))
+
+pub invariant_of-self-clause-leads : goal.invariant_of-self-clause-leads
+invariant_of-self-clause-leads c =
+    let t = c.args.self.now in
+    let p = c.args.p in
+    let k = c.in-Some.k in
+    let at = sym c.number_near.ensures ∙ c.in-Some.is in
+    let here = shown_some object_of (value_at t.rows p k) c.args.row.object (t.leads p c.args.row.object k at) in
+    by_process (λ q. Lead (λ j. option_map object_of (value_at c.set.new.self q j)) (number_at t.numbers q)) p
+    (set_leads object_of (value_at t.rows p) (value_at c.set.new.self p) (number_at t.numbers p) (number_at t.numbers p) c.args.row.object k (t.found p) (t.leads p) at (λ _. c.args.row) (λ v e. refl)
+    (written (value_at t.rows p) (value_at c.set.new.self p) k c.args.row here (λ j. grind (arith, c.set.ensures.set p j, own_process p))))
+    (λ q off x j e. grind (arith, t.leads q x j e, c.set.ensures.set q j, off))
+
+pub returns-in-Some-clause-set : goal.returns-in-Some-clause-set
+returns-in-Some-clause-set c =
+    let t = c.args.self.now in
+    let p = c.args.p in
+    let k = c.in-Some.k in
+    let at = sym c.number_near.ensures ∙ c.in-Some.is in
+    let here = shown_some object_of (value_at t.rows p k) c.args.row.object (t.leads p c.args.row.object k at) in
+    by_process (λ q. (x : Identity) → on_slot None (value_at c.set.new.self q) (number_at t.numbers q x)
+    ≡ cond ((p == q) && same c.args.row.object x) (option_map (λ _. c.args.row) (on_slot None (value_at t.rows q) (number_at t.numbers q x))) (on_slot None (value_at t.rows q) (number_at t.numbers q x))) p
+    (λ x. grind (
+      arith,
+      own_process p,
+      set_at object_of (value_at t.rows p) (value_at c.set.new.self p) (number_at t.numbers p) (number_at t.numbers p) c.args.row.object k (t.found p) (t.leads p) at (λ _. c.args.row) (λ v e. refl)
+          (written (value_at t.rows p) (value_at c.set.new.self p) k c.args.row here (λ j. grind (arith, c.set.ensures.set p j, own_process p))) x,
+    ))
+    (λ q off x. grind (arith, off, same_slots (value_at t.rows q) (value_at c.set.new.self q) (number_at t.numbers q x) (λ j. grind (arith, off, c.set.ensures.set q j))))

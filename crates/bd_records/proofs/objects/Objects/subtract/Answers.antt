@@ -1,0 +1,26 @@
+use Rattle.std.proofs.Common.{sym, ◌∙◌}
+use Rattle.bd_records.specs.Counting.{lowered}
+use Rattle.slab.specs.Slab.{get}
+use Rattle.bd_ways.specs.Words.{Identity}
+use Rattle.bd_records.specs.declared.row.ObjectRow.{ObjectRow}
+use Rattle.bd_records.specs.Objects.{slot_at}
+use Rattle.bd_records.proofs.Keyed.{set_found, set_leads, set_at}
+use Rattle.bd_records.proofs.objects.Objects.subtract.Goals as goal
+
+abbrev id : ObjectRow → Identity
+id r = r.object.id
+
+pub invariant_of-self-clause-found : goal.invariant_of-self-clause-found
+invariant_of-self-clause-found c =
+    let t = c.args.self.now in
+    set_found id (get t.rows) (get c.subtract_row.new.rows) (slot_at t) (slot_at t) c.args.o c.in-Some.k t.found t.leads (sym c.slot_near.ensures ∙ c.in-Some.is) (lowered c.args.fewer) (λ w e. e) c.subtract_row.ensures.set
+
+pub invariant_of-self-clause-leads : goal.invariant_of-self-clause-leads
+invariant_of-self-clause-leads c =
+    let t = c.args.self.now in
+    set_leads id (get t.rows) (get c.subtract_row.new.rows) (slot_at t) (slot_at t) c.args.o c.in-Some.k t.found t.leads (sym c.slot_near.ensures ∙ c.in-Some.is) (lowered c.args.fewer) (λ w e. e) c.subtract_row.ensures.set
+
+pub returns-in-Some-clause-lowered : goal.returns-in-Some-clause-lowered
+returns-in-Some-clause-lowered c =
+    let t = c.args.self.now in
+    set_at id (get t.rows) (get c.subtract_row.new.rows) (slot_at t) (slot_at t) c.args.o c.in-Some.k t.found t.leads (sym c.slot_near.ensures ∙ c.in-Some.is) (lowered c.args.fewer) (λ w e. e) c.subtract_row.ensures.set

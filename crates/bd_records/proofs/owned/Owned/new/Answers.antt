@@ -1,0 +1,16 @@
+use Rattle.std.proofs.Common.{◌≡◌, false, [], None, Some, refl, sym, ap, ◌∙◌}
+use Rattle.std.specs.Prelude.{option_map}
+use Rattle.bd_records.specs.declared.owned.Spot.{Spot}
+use Rattle.bd_records.specs.Owned.{owner_of}
+use Rattle.bd_records.proofs.owned.Owned.new.Goals as goal
+
+pub returns : goal.returns
+returns c = record {
+  found = λ k. ap (option_map (λ (s : Spot). s.id)) (c.new.ensures k);
+  ids = tt;
+  ptrs = tt;
+  rows = [];
+  shows = c.new-3.ensures c.new-2.ensures owner_of (λ _. false);
+  are = refl;
+  spots = λ k s e. absurd (let h : None ≡ Some s = sym (c.new.ensures k) ∙ e in cc);
+}

@@ -1,0 +1,16 @@
+use Rattle.std.proofs.Common.{◌++◌, map, List, ap, ◌∙◌}
+use Rattle.std.proofs.lemmas.Result.{on_ok_weaker, on_err_weaker}
+use Rattle.bd_ways.specs.Words.{Identity}
+use Rattle.bd_records.specs.declared.owned.Possession.{Possession}
+use Rattle.bd_records.specs.Owned.{possession}
+use Rattle.bd_records.proofs.Possessing.{id_of, ids_of}
+use Rattle.bd_records.proofs.owned.Owned.owned_by.Goals as goal
+
+pub returns-clause-pushed : goal.returns-clause-pushed
+returns-clause-pushed c =
+    on_ok_weaker c.push_ids.result
+    (λ e objects n. e ∙ ap (λ (vs : List Possession). c.args.touched.now.items ++ map id_of vs) (c.of.ensures objects n) ∙ ap (λ (is : List Identity). c.args.touched.now.items ++ is) (ids_of _))
+    c.push_ids.ensures.pushed
+
+pub returns-clause-grown : goal.returns-clause-grown
+returns-clause-grown c = on_err_weaker c.push_ids.result (λ h objects n e. h (c.of.ensures objects n ∙ ap (map possession) e)) c.push_ids.ensures.grown

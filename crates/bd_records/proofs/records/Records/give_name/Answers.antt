@@ -1,0 +1,59 @@
+use Rattle.std.proofs.Common.{◌≡◌, List, ◌++◌, Some, None, is_some, cond, sym, ap, ◌∙◌, subst, arith}
+use Rattle.bd_ways.specs.Words.{Name}
+use Rattle.bd_numbered.specs.Numbered.{value_at}
+use Rattle.bd_handles.proofs.Given.{new_name, one_given}
+use Rattle.bd_records.specs.{Counting.{asked_of, carried_of}, Names.{name_at, number_of}, Objects.{row_at}, NameRows.{object_of, new_row}, Slots.{on_slot}, Since.{IsBlank, AreBlank}}
+use Rattle.bd_records.proofs.{Naming.{shown_some}, Asked.{counts_named}, Given.{given_number, since_had, all_put, blank_more, here}}
+use Rattle.bd_records.proofs.records.Records.give_name.Goals as goal
+
+pub returns-in-Some-clause-names : goal.returns-in-Some-clause-names
+returns-in-Some-clause-names c = λ base names h. since_had c.args.self.now c.args.from_zero c.args.p c.args.o base names h (ap is_some (sym c.number_near.ensures ∙ c.in-Some.is))
+
+pub returns-in-Some-clause-named : goal.returns-in-Some-clause-named
+returns-in-Some-clause-named c =
+    let t = c.args.self.now.names in
+    let is : number_of t c.args.p c.args.o ≡ Some c.in-Some.field-0 = sym c.number_near.ensures ∙ c.in-Some.is in
+    ap (λ k. is_some (on_slot None (value_at t.rows c.args.p) k)) is
+    ∙ shown_some object_of (value_at t.rows c.args.p c.in-Some.field-0) c.args.o (t.leads c.args.p c.args.o c.in-Some.field-0 is)
+
+pub returns-in-Ok-clause-stands : goal.returns-in-Ok-clause-stands
+returns-in-Ok-clause-stands c = λ objects l own h.
+    let t = c.args.self.now.names in
+    let lacks : number_of t c.args.p c.args.o ≡ None = grind (arith, c.number_near.ensures, c.in_default.not-Some) in
+    record {
+      objects_are = h.objects_are;
+      owners = h.owners;
+      own = h.own;
+      counts = counts_named (row_at c.args.self.now.objects) (name_at t) (name_at c.give_name.new.names) c.args.p c.args.o objects l h.counts (ap (on_slot None (value_at t.rows c.args.p)) lacks) c.in-Ok.ensures.rows;
+      held = h.held;
+      few = h.few;
+    }
+
+pub returns-in-Ok-clause-names : goal.returns-in-Ok-clause-names
+returns-in-Ok-clause-names c = λ base names h.
+    let zero = c.args.from_zero in
+    let p = c.args.p in
+    let o = c.args.o in
+    let n = c.in-Ok.n in
+    let t = c.args.self.now.names in
+    let u = c.give_name.new.names in
+    let given = c.args.self.now.given.items in
+    let m : Name = record { process = p; number = n; object = o } in
+    let lacks : number_of t p o ≡ None = grind (arith, c.number_near.ensures, c.in_default.not-Some) in
+    let rows = c.in-Ok.ensures.rows in
+    let put : name_at u p o ≡ Some (new_row o) = rows p o ∙ ap (λ b. cond b (Some (new_row o)) (name_at t p o)) (here p o) in
+    let blank : IsBlank (name_at u p o) = (ap asked_of put, ap carried_of put) in
+    let more = c.in-Ok.ensures.ok names h.stands in
+    record {
+      stands = more;
+      grows = sym (new_name zero p n names o (h.stands.numbers_are p o ∙ lacks) (given_number t u names zero p n o h.stands lacks more c.in-Ok.ensures.number))
+          ∙ one_given base given names m h.grows ∙ ap (λ (g : List Name). base ++ g) (sym c.push_reserved.ensures.items);
+      blank = subst (AreBlank u) (sym c.push_reserved.ensures.items) (blank_more u given m (all_put t u p o rows given h.blank) blank);
+    }
+
+pub returns-in-Ok-clause-named : goal.returns-in-Ok-clause-named
+returns-in-Ok-clause-named c =
+    let u = c.give_name.new.names in
+    let is : number_of u c.args.p c.args.o ≡ Some c.in-Ok.n = c.in-Ok.ensures.number in
+    ap (λ k. is_some (on_slot None (value_at u.rows c.args.p) k)) is
+    ∙ shown_some object_of (value_at u.rows c.args.p c.in-Ok.n) c.args.o (u.leads c.args.p c.args.o c.in-Ok.n is)

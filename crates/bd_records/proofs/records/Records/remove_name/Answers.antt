@@ -1,0 +1,14 @@
+use Rattle.bd_records.specs.{Names.{name_at}, Objects.{row_at}}
+use Rattle.bd_records.proofs.Asked.{counts_unnamed, unnamed_counts}
+use Rattle.bd_records.proofs.records.Records.remove_name.Goals as goal
+
+pub returns-clause-stands : goal.returns-clause-stands
+returns-clause-stands c = λ objects l none h. record {
+  objects_are = h.objects_are;
+  owners = h.owners;
+  own = h.own;
+  counts = counts_unnamed (row_at c.args.self.now.objects) (name_at c.args.self.now.names) (name_at c.remove_name.new.names) c.args.p c.args.o objects l h.counts
+      (unnamed_counts objects l c.args.p c.args.o none) c.remove_name.ensures.rows;
+  held = h.held;
+  few = h.few;
+}

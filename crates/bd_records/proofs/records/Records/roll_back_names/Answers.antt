@@ -1,0 +1,58 @@
+use Rattle.std.proofs.Common.{◌++◌, refl, sym, subst, arith}
+use Rattle.bd_handles.proofs.Given.{nil_of, all_back}
+use Rattle.bd_records.specs.{Names.{name_at}, Objects.{row_at}, NamesAre.{NamesAre}, Since.{AreBlank, Since}}
+use Rattle.bd_records.proofs.{Asked.{counts_unnamed}, Given.{all_gone, blank_last, blank_counts, last_of}}
+use Rattle.bd_records.proofs.records.Records.roll_back_names.Goals as goal
+
+pub loop-m-init : goal.loop-m-init
+loop-m-init c = record {
+  kept = λ base names h objects l r. r;
+  since = λ base names h. subst (Since c.args.self.now base) h.grows h;
+  room = λ q. omega arith;
+}
+
+pub loop-m-preserved : goal.loop-m-preserved
+loop-m-preserved c = record {
+  kept = λ base names given_since objects l r.
+      let t = c.loop-m.self in
+      let m = c.in-Some.m in
+      let k = c.loop-m.invariant.kept base names given_since objects l r in
+      let s = c.loop-m.invariant.since base names given_since in
+      let b = blank_last t.names c.pop.new.self.items m (subst (AreBlank t.names) c.in-Some.ensures.items s.blank) in
+      record {
+        objects_are = k.objects_are;
+        owners = k.owners;
+        own = k.own;
+        counts = counts_unnamed (row_at t.objects) (name_at t.names) (name_at c.remove_name.new.names) m.process m.object objects l k.counts
+            (blank_counts (row_at t.objects) (name_at t.names) objects l k.counts m.process m.object b.1) c.remove_name.ensures.rows;
+        held = k.held;
+        few = k.few;
+      };
+  since = λ base names given_since.
+      let t = c.loop-m.self in
+      let m = c.in-Some.m in
+      let s = c.loop-m.invariant.since base names given_since in
+      let b = blank_last t.names c.pop.new.self.items m (subst (AreBlank t.names) c.in-Some.ensures.items s.blank) in
+      record {
+        stands = subst (NamesAre c.remove_name.new.names) (last_of base t.given.items c.pop.new.self.items (base ++ t.given.items) m s.stands.sound refl c.in-Some.ensures.items)
+            (c.remove_name.ensures.stands (base ++ t.given.items) s.stands);
+        grows = refl;
+        blank = all_gone t.names c.remove_name.new.names m.process m.object c.remove_name.ensures.rows c.pop.new.self.items b.0;
+      };
+  room = λ q. omega (arith, c.loop-m.invariant.room q, c.remove_name.ensures.uses q, c.in-Some.ensures.len, c.in-Some.ensures.capacity);
+}
+
+pub returns-clause-stands : goal.returns-clause-stands
+returns-clause-stands c = λ base names h objects l r.
+    let k = c.loop-m.invariant.kept base names h objects l r in
+    record { objects_are = k.objects_are; owners = k.owners; own = k.own; counts = k.counts; held = k.held; few = k.few }
+
+pub returns-clause-names : goal.returns-clause-names
+returns-clause-names c = λ base names h.
+    let none = c.in_default.ensures.cases in
+    let s = c.loop-m.invariant.since base names h in
+    record {
+      stands = subst (NamesAre c.loop-m.self.names) (all_back base c.loop-m.self.given.items (omega (arith, none.0))) s.stands;
+      grows = sym (all_back base c.pop.new.self.items (omega (arith, none.1)));
+      blank = subst (AreBlank c.loop-m.self.names) (sym (nil_of c.pop.new.self.items (omega (arith, none.1)))) tt;
+    }

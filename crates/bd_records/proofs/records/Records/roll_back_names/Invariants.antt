@@ -1,0 +1,14 @@
+use Rattle.std.proofs.Common.{◌≤◌, ℕ, List, ◌++◌, length}
+use Rattle.bd_ways.specs.Words.{Name, Object, Reference}
+use Rattle.bd_records.specs.{Records.{RecordsAre}, Since.{Since, given_room}}
+use Rattle.bd_records.proofs.records.Records.roll_back_names.Given as goal
+
+abbrev pub invariant-loop-m : goal.invariant-loop-m
+invariant-loop-m l = record {
+  kept : (base names : List Name) → Since l.fn.self base names → (objects : List Object) (references : List Reference) → RecordsAre l.fn.self objects references → RecordsAre l.self objects references;
+  since : (base names : List Name) → Since l.fn.self base names → Since l.self base (base ++ l.self.given.items);
+  room : (q : ℕ) → given_room l.fn.self q ≤ given_room l.self q;
+}
+
+abbrev pub decreases-loop-m : goal.decreases-loop-m
+decreases-loop-m l = length l.self.given.items

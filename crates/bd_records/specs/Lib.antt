@@ -1,0 +1,12 @@
+pub mod Count
+pub mod Slots
+pub mod Objects
+pub mod NameRows
+pub mod Names
+pub mod Counting
+pub mod Counted
+pub mod Buffers
+pub mod Owned
+pub mod Records
+pub mod NamesAre
+pub mod Since

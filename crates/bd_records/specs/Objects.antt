@@ -1,0 +1,18 @@
+-- The records of objects, by identity.
+use Rattle.std.specs.Prelude.{ℕ, Option, None, min}
+use Rattle.std.specs.HashMap.{get_by, spare}
+use Rattle.slab.specs.Slab.{get}
+use Rattle.bd_ways.specs.Words.{Identity, same}
+use Rattle.bd_records.specs.declared.row.ObjectRow.{ObjectRow}
+use Rattle.bd_records.specs.declared.objects.Objects.{Objects}
+use Rattle.bd_records.specs.Slots.{on_slot, row_room}
+
+abbrev pub slot_at : Objects → Identity → Option ℕ
+slot_at t o = get_by (same o) t.slots
+
+abbrev pub row_at : Objects → Identity → Option ObjectRow
+row_at t o = on_slot None (get t.rows) (slot_at t o)
+
+-- the room for more objects
+abbrev pub object_room : Objects → ℕ
+object_room t = min (row_room t.rows) (spare t.slots)

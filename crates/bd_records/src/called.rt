@@ -1,0 +1,98 @@
+//! Names that come and go, in the records that count what carries them.
+
+ghost use Rattle.std.specs.Prelude.{ℕ, ◌≡◌, ◌≤◌, ◌+◌, true, false, not, filter, is_some, List, OnOk, OnErr};
+ghost use Rattle.bd_keys.specs.Tables as tables;
+ghost use Rattle.bd_space.specs.declared.space.{Object.{Object}, Reference.{Reference}};
+ghost use Rattle.bd_space.specs.declared.space.Name as declared;
+ghost use Rattle.bd_space.specs.References as refer;
+ghost use Rattle.bd_space.specs.Names as names_of;
+ghost use Rattle.bd_handles.specs.{Numbers.{with_number, IsFull}, Sound.{has_object}};
+
+use crate::listed::{give_name, remove_name};
+use crate::records::Records;
+use crate::turning::Near;
+use bd_handles::NumbersFull;
+use bd_space::{Identity, Name};
+use std::alloc::AllocError;
+
+impl Records {
+    ghost use Rattle.bd_records.specs.{Records.{RecordsAre, Makes, reference_room}, NamesAre.{NamesAre}, Names.{name_at}, Since.{Since, given_room}};
+
+    /// Makes room for more names of the process, and changes nothing besides.
+    pub fn reserve_names(&mut self, p: u64, more: usize, near: usize) -> Result<(), AllocError>
+        ensures stands { Makes self.old self.new (λ l. l) }
+        ensures names { (base names : List declared.Name) → Since self.old base names → Since self.new base names }
+        ensures uses { (q : ℕ) → given_room self.old q ≤ given_room self.new q }
+        ensures room { OnOk result (more ≤ given_room self.new p) }
+        ensures grown { OnErr result (more ≤ given_room self.old p → ⊥) }
+    {
+        self.names.reserve(p, more, near)?;
+        self.given.reserve(more)
+    }
+
+    /// Sees to it that the process has a name for the object, which isn't its own: a new one gets the least free number, from 0 or
+    /// from 1, and can be taken back.
+    pub fn give_name(
+        &mut self,
+        from_zero: bool,
+        p: u64,
+        o: Identity,
+        near: Near,
+    ) -> Result<(), NumbersFull>
+        requires { 1 ≤ given_room self.old p }
+        ensures stands { OnOk result ((objects : List Object) (l : List Reference) → refer.owned_in objects p o ≡ false
+            → RecordsAre self.old objects l → RecordsAre self.new objects l) }
+        ensures names { OnOk result ((base names : List declared.Name) → Since self.old base names
+            → Since self.new base (with_number from_zero p names o)) }
+        ensures named { OnOk result (is_some (name_at self.new.names p o) ≡ true) }
+        ensures err { OnErr result (self.new ≡ self.old) }
+        ensures full { OnErr result ((l : List declared.Name) → NamesAre self.old.names l → IsFull from_zero p l o) }
+        ensures room { reference_room self.new ≡ reference_room self.old }
+        ensures uses { (q : ℕ) → given_room self.old q ≤ given_room self.new q + 1 }
+    {
+        if let Some(_) = self.names.number_near(p, o, near.number, near.process) {
+            return Ok(());
+        }
+        match give_name(&mut self.names, from_zero, p, o, near.process) {
+            Ok(n) => {
+                self.given.push_reserved(Name {
+                    process: p,
+                    number: n,
+                    object: o,
+                });
+                Ok(())
+            }
+            Err(full) => Err(full),
+        }
+    }
+
+    /// Settles the names: those given so far stay.
+    pub fn settle_names(&mut self)
+        ensures stands { Makes self.old self.new (λ l. l) }
+        ensures names { (base names : List declared.Name) → Since self.old base names → Since self.new names names }
+        ensures uses { (q : ℕ) → given_room self.old q ≤ given_room self.new q }
+    {
+        self.given.clear();
+    }
+
+    /// Takes back all names that were given since they were settled.
+    pub fn roll_back_names(&mut self)
+        ensures stands { (base names : List declared.Name) → Since self.old base names → Makes self.old self.new (λ l. l) }
+        ensures names { (base names : List declared.Name) → Since self.old base names → Since self.new base base }
+        ensures uses { (q : ℕ) → given_room self.old q ≤ given_room self.new q }
+    {
+        while let Some(m) = self.given.pop() {
+            remove_name(&mut self.names, m.process, m.object, m.number, 0);
+        }
+    }
+
+    /// The process's name of the object goes, if it has one: the object is its own, or no reference carries the name.
+    pub fn remove_name(&mut self, p: u64, o: Identity, near: Near)
+        ensures stands { (objects : List Object) (l : List Reference) → names_of.is_named_in objects l p o ≡ false
+            → RecordsAre self.old objects l → RecordsAre self.new objects l }
+        ensures names { tables.Makes (NamesAre self.old.names) (NamesAre self.new.names) (λ l. filter (λ m. not (has_object p o m)) l) }
+        ensures room { reference_room self.new ≡ reference_room self.old }
+    {
+        remove_name(&mut self.names, p, o, near.number, near.process);
+    }
+}

@@ -1,0 +1,26 @@
+//! One record for each object and one for each name, with counts of the references to it.
+#![tactic(auto)]
+
+mod buffers;
+mod called;
+mod change;
+mod count;
+mod counting;
+mod keys;
+mod listed;
+mod names;
+mod objects;
+mod owned;
+mod records;
+mod row;
+mod slots;
+mod turning;
+
+pub use count::Count;
+pub use listed::{give_name, name_number, named_object, new_names, next_number, remove_name};
+pub use names::Names;
+pub use objects::Objects;
+pub use owned::Owned;
+pub use records::{Hold, Records};
+pub use row::{NameRow, ObjectRow};
+pub use turning::Near;

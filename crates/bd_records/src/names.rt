@@ -1,0 +1,209 @@
+//! Names' records, in each process's vector by number.
+
+ghost use Rattle.std.specs.Prelude.{ℕ, ◌≡◌, ◌==◌, ◌≤◌, ◌<◌, ◌+◌, ◌&&◌, true, Some, None, is_some, option_map, ◌^◌, IfOk, IfSome, IfNone, OnOk, OnErr, if◌then◌else◌};
+ghost use Rattle.bd_space.specs.Words.{same};
+ghost use Rattle.bd_space.specs.declared.step.Identity as declared;
+ghost use Rattle.bd_handles.specs.Keys.{number_at};
+ghost use Rattle.bd_records.specs.NameRows.{object_in, new_row};
+ghost use Rattle.bd_records.specs.Counting as spec;
+
+use crate::count::Count;
+use crate::counting::name_turned;
+use crate::keys::reserve_numbers;
+use crate::row::NameRow;
+use bd_handles::{NumbersFull, ObjectKey, insert_number, number_of, remove_number};
+use bd_numbered::Numbered;
+use bd_space::{Identity, Reference};
+use std::alloc::{AllocError, Global};
+use std::collections::HashMap;
+
+/// The names of all processes.
+#[derive(Drop)]
+pub struct Names {
+    pub(crate) rows: Numbered<NameRow>,
+    // Numbers by process and object, asked where a guess was wrong.
+    pub(crate) numbers: HashMap<ObjectKey, u32>,
+    ghost found: { (p : ℕ) (o : declared.Identity) (n : ℕ) → object_in rows p n ≡ Some o → number_at numbers p o ≡ Some n },
+    ghost leads: { (p : ℕ) (o : declared.Identity) (n : ℕ) → number_at numbers p o ≡ Some n → object_in rows p n ≡ Some o },
+}
+
+impl Names {
+    ghost use Rattle.bd_numbered.specs.Numbered.{IsFreeAt};
+    ghost use Rattle.bd_chains.specs.Chain.{is_at};
+    ghost use Rattle.bd_records.specs.Names.{number_of, named_by, name_at, name_room};
+
+    /// No names. Takes no memory.
+    pub fn new(alloc: Global) -> Names
+        ensures names { (p : ℕ) (o : declared.Identity) → name_at result p o ≡ None }
+        ensures named { (p n : ℕ) → named_by result p n ≡ None }
+        ensures numbers { (p : ℕ) (o : declared.Identity) → number_of result p o ≡ None }
+    {
+        Names {
+            rows: Numbered::new(alloc),
+            numbers: HashMap::new(alloc),
+        }
+    }
+
+    /// Makes room for more names of the process, and changes nothing besides, whatever it answers.
+    pub fn reserve(&mut self, p: u64, more: usize, near: usize) -> Result<(), AllocError>
+        ensures named { (q n : ℕ) → named_by self.new q n ≡ named_by self.old q n }
+        ensures numbers { (q : ℕ) (o : declared.Identity) → number_of self.new q o ≡ number_of self.old q o }
+        ensures names { (q : ℕ) (o : declared.Identity) → name_at self.new q o ≡ name_at self.old q o }
+        ensures uses { (q : ℕ) → name_room self.old q ≤ name_room self.new q }
+        ensures room { OnOk result (more ≤ name_room self.new p) }
+        // Memory was asked for: there was no room.
+        ensures grown { OnErr result (more ≤ name_room self.old p → ⊥) }
+    {
+        self.rows.reserve(p, more, near)?;
+        reserve_numbers(&mut self.numbers, more)
+    }
+
+    /// What the number names for the process.
+    #[inline(always)]
+    pub fn named(&self, p: u64, n: u32, near: usize) -> Option<Identity>
+        ensures { result ≡ named_by self.now p n }
+    {
+        match self.rows.get(p, n, near) {
+            Some(row) => Some(row.object),
+            None => None,
+        }
+    }
+
+    /// By which number the process names the object. Looks under `n` first, whatever that is.
+    #[inline(always)]
+    pub fn number_near(&self, p: u64, o: Identity, n: u32, near: usize) -> Option<u32>
+        ensures { result ≡ number_of self.now p o }
+    {
+        if self.named(p, n, near) == Some(o) {
+            return Some(n);
+        }
+        number_of(&self.numbers, p, o)
+    }
+
+    /// The least number from this one on that names something for the process. Looks at each number up to it.
+    pub fn next_number(&self, p: u64, from: u32, near: usize) -> Option<u32>
+        ensures none { IfNone result ((m : ℕ) → from ≤ m → m < 2 ^ 32 → named_by self.now p m ≡ None) }
+        ensures from { IfSome result (λ n. from ≤ n) }
+        ensures there { IfSome result (λ n. is_some (named_by self.now p n) ≡ true) }
+        ensures before { IfSome result (λ n. (m : ℕ) → from ≤ m → m < n → named_by self.now p m ≡ None) }
+    {
+        self.rows.next(p, from, near)
+    }
+
+    /// The record of the process's name of the object.
+    #[inline(always)]
+    pub fn row_near(&self, p: u64, o: Identity, n: u32, near: usize) -> Option<NameRow>
+        ensures is { result ≡ name_at self.now p o }
+        ensures object { IfSome result (λ w. w.object ≡ o) }
+    {
+        let n = self.number_near(p, o, n, near)?;
+        self.rows.get(p, n, near)
+    }
+
+    /// Puts this record in place of the one that the process's name of the same object has.
+    #[inline(always)]
+    pub fn set(&mut self, p: u64, n: u32, near: usize, row: NameRow)
+        ensures named { (q m : ℕ) → named_by self.new q m ≡ named_by self.old q m }
+        ensures numbers { (q : ℕ) (o : declared.Identity) → number_of self.new q o ≡ number_of self.old q o }
+        ensures set { (q : ℕ) (o : declared.Identity) → name_at self.new q o
+            ≡ (if (p == q) && same row.object o then option_map (λ _. row) (name_at self.old q o) else name_at self.old q o) }
+        ensures uses { (q : ℕ) → name_room self.old q ≤ name_room self.new q }
+    {
+        if let Some(k) = self.number_near(p, row.object, n, near) {
+            self.rows.set(p, k, row, near);
+        }
+    }
+
+    /// Counts the reference, or no longer, in the record of the process's name of its object.
+    #[inline(always)]
+    pub fn turn(&mut self, p: u64, n: u32, near: usize, r: Reference, more: bool)
+        ensures turned { (q : ℕ) (o : declared.Identity) → name_at self.new q o
+            ≡ (if (p == q) && same r.object o then option_map (spec.name_turned more r) (name_at self.old q o) else name_at self.old q o) }
+        ensures named { (q m : ℕ) → named_by self.new q m ≡ named_by self.old q m }
+        ensures numbers { (q : ℕ) (o : declared.Identity) → number_of self.new q o ≡ number_of self.old q o }
+        ensures uses { (q : ℕ) → name_room self.old q ≤ name_room self.new q }
+    {
+        if let Some(k) = self.number_near(p, r.object, n, near) {
+            match self.rows.get(p, k, near) {
+                Some(w) => self.rows.set(p, k, name_turned(more, w, r), near),
+                None => unreachable!(),
+            }
+        }
+    }
+
+    /// The record of the process's name of that object counts nothing any more that the process asked for, if there is one.
+    pub fn clear_asked(&mut self, p: u64, o: Identity, n: u32, near: usize)
+        ensures cleared { (q : ℕ) (x : declared.Identity) → name_at self.new q x
+            ≡ (if (p == q) && same o x then option_map spec.unasked (name_at self.old q x) else name_at self.old q x) }
+        ensures named { (q m : ℕ) → named_by self.new q m ≡ named_by self.old q m }
+        ensures numbers { (q : ℕ) (x : declared.Identity) → number_of self.new q x ≡ number_of self.old q x }
+        ensures uses { (q : ℕ) → name_room self.old q ≤ name_room self.new q }
+    {
+        if let Some(k) = self.number_near(p, o, n, near) {
+            match self.rows.get(p, k, near) {
+                Some(w) => self.rows.set(
+                    p,
+                    k,
+                    NameRow {
+                        asked: Count::none(),
+                        ..w
+                    },
+                    near,
+                ),
+                None => unreachable!(),
+            }
+        }
+    }
+
+    /// A name for an object that the process has none for: with the least free number, from 0 or from 1, which it answers.
+    pub fn give(
+        &mut self,
+        from_zero: bool,
+        p: u64,
+        o: Identity,
+        near: usize,
+    ) -> Result<u32, NumbersFull>
+        requires room { 1 ≤ name_room self.old p }
+        requires lacks { number_of self.old p o ≡ None }
+        ensures err { OnErr result (self.new ≡ self.old) }
+        ensures full { OnErr result ((m : ℕ) → (if from_zero then 0 else 1) ≤ m → m ≤ 4294967294
+            → is_some (named_by self.old p m) ≡ true) }
+        ensures free { IfOk result (λ n. IsFreeAt (if from_zero then 0 else 1) self.old.rows p n) }
+        ensures within { IfOk result (λ n. n ≤ 4294967294) }
+        ensures named { IfOk result (λ n. (q m : ℕ)
+            → named_by self.new q m ≡ (if (p == q) && (n == m) then Some o else named_by self.old q m)) }
+        ensures numbers { IfOk result (λ n. (q : ℕ) (x : declared.Identity)
+            → number_of self.new q x ≡ (if (p == q) && same o x then Some n else number_of self.old q x)) }
+        ensures names { OnOk result ((q : ℕ) (x : declared.Identity)
+            → name_at self.new q x ≡ (if (p == q) && same o x then Some (new_row o) else name_at self.old q x)) }
+        ensures uses { (q : ℕ) → name_room self.old q ≤ name_room self.new q + 1 }
+    {
+        let Some(n) = self.rows.free_number(p, from_zero, near) else {
+            return Err(NumbersFull);
+        };
+        let row = NameRow {
+            object: o,
+            asked: Count::none(),
+            carried: Count::none(),
+        };
+        let _n = self.rows.put(p, n == 0, row, near);
+        insert_number(&mut self.numbers, p, o, n);
+        Ok(n)
+    }
+
+    /// Takes out the process's name of the object, if there is one.
+    pub fn remove(&mut self, p: u64, o: Identity, n: u32, near: usize)
+        ensures named { (q m : ℕ) → named_by self.new q m
+            ≡ (if (p == q) && is_at m (number_of self.old p o) then None else named_by self.old q m) }
+        ensures numbers { (q : ℕ) (x : declared.Identity) → number_of self.new q x
+            ≡ (if (p == q) && same o x then None else number_of self.old q x) }
+        ensures names { (q : ℕ) (x : declared.Identity) → name_at self.new q x
+            ≡ (if (p == q) && same o x then None else name_at self.old q x) }
+        ensures uses { (q : ℕ) → name_room self.old q ≤ name_room self.new q }
+    {
+        if let Some(k) = self.number_near(p, o, n, near) {
+            let _row = self.rows.remove(p, k, near);
+            remove_number(&mut self.numbers, p, o);
+        }
+    }
+}

@@ -1,0 +1,157 @@
+//! Objects' records, in slots.
+
+ghost use Rattle.std.specs.Prelude.{ℕ, ◌≡◌, ◌==◌, ◌≤◌, ◌<◌, ◌+◌, Some, None, option_map, IfSome, if◌then◌else◌, OnOk, OnErr};
+ghost use Rattle.std.specs.HashMap.{get_by};
+ghost use Rattle.bd_space.specs.Words.{same};
+ghost use Rattle.bd_space.specs.declared.step.Identity as declared;
+ghost use Rattle.bd_records.specs.Slots.{id_in};
+ghost use Rattle.bd_records.specs.Counting as spec;
+
+use crate::count::Count;
+use crate::row::ObjectRow;
+use crate::slots::{
+    id_at, insert_row, insert_slot, remove_of_owner_in, remove_row, remove_slot, reserve_rows,
+    reserve_slots, row_in, set_row, slot_of, subtract_row, tell_row, turn_row,
+};
+use bd_space::{Identity, Reference};
+use slab::Slab;
+use std::alloc::{AllocError, Global};
+use std::collections::HashMap;
+
+/// The records of all objects.
+#[derive(Drop)]
+pub struct Objects {
+    pub(crate) rows: Slab<ObjectRow>,
+    // Slots by identity, asked where a guess was wrong.
+    pub(crate) slots: HashMap<Identity, usize>,
+    ghost found: { (o : declared.Identity) (k : ℕ) → id_in rows k ≡ Some o → get_by (same o) slots ≡ Some k },
+    ghost leads: { (o : declared.Identity) (k : ℕ) → get_by (same o) slots ≡ Some k → id_in rows k ≡ Some o },
+}
+
+impl Objects {
+    ghost use Rattle.bd_records.specs.Objects.{slot_at, row_at, object_room};
+
+    /// No objects. Takes no memory.
+    pub fn new(alloc: Global) -> Objects
+        ensures { (o : declared.Identity) → row_at result o ≡ None }
+    {
+        Objects {
+            rows: Slab::new(alloc),
+            slots: HashMap::new(alloc),
+        }
+    }
+
+    /// Makes room for more objects, and changes nothing besides, whatever it answers.
+    pub fn reserve(&mut self, more: usize) -> Result<(), AllocError>
+        ensures kept { (o : declared.Identity) → row_at self.new o ≡ row_at self.old o }
+        ensures uses { object_room self.old ≤ object_room self.new }
+        ensures room { OnOk result (more ≤ object_room self.new) }
+        // Memory was asked for: there was no room.
+        ensures grown { OnErr result (more ≤ object_room self.old → ⊥) }
+    {
+        reserve_rows(&mut self.rows, more)?;
+        reserve_slots(&mut self.slots, more)
+    }
+
+    /// In which slot the object's record is. Looks into the slot `near` first, whatever that is.
+    #[inline(always)]
+    pub fn slot_near(&self, o: Identity, near: usize) -> Option<usize>
+        ensures { result ≡ slot_at self.now o }
+    {
+        if id_at(&self.rows, near) == Some(o) {
+            return Some(near);
+        }
+        slot_of(&self.slots, o)
+    }
+
+    /// The object's record.
+    #[inline(always)]
+    pub fn row_near(&self, o: Identity, near: usize) -> Option<ObjectRow>
+        ensures is { result ≡ row_at self.now o }
+        ensures id { IfSome result (λ w. w.object.id ≡ o) }
+    {
+        let k = self.slot_near(o, near)?;
+        row_in(&self.rows, k)
+    }
+
+    /// Writes the object's record, if it has one.
+    pub fn set(&mut self, near: usize, row: ObjectRow)
+        ensures set { (x : declared.Identity) → row_at self.new x
+            ≡ (if same row.object.id x then option_map (λ _. row) (row_at self.old x) else row_at self.old x) }
+        ensures uses { object_room self.old ≤ object_room self.new }
+    {
+        if let Some(k) = self.slot_near(row.object.id, near) {
+            set_row(&mut self.rows, k, row);
+        }
+    }
+
+    /// Counts the reference, or no longer, in the record of its object.
+    #[inline(always)]
+    pub fn turn(&mut self, near: usize, r: Reference, more: bool)
+        ensures turned { (x : declared.Identity) → row_at self.new x
+            ≡ (if same r.object x then option_map (spec.turned more r) (row_at self.old x) else row_at self.old x) }
+        ensures uses { object_room self.old ≤ object_room self.new }
+    {
+        if let Some(k) = self.slot_near(r.object, near) {
+            turn_row(&mut self.rows, k, r, more);
+        }
+    }
+
+    /// The object's owner was told whether the object is held, and whether strongly.
+    pub fn set_told(&mut self, near: usize, o: Identity, weak: bool, strong: bool)
+        ensures told { (x : declared.Identity) → row_at self.new x
+            ≡ (if same o x then option_map (spec.told weak strong) (row_at self.old x) else row_at self.old x) }
+        ensures uses { object_room self.old ≤ object_room self.new }
+    {
+        if let Some(k) = self.slot_near(o, near) {
+            tell_row(&mut self.rows, k, weak, strong);
+        }
+    }
+
+    /// The object's record counts so many fewer.
+    pub fn subtract(&mut self, near: usize, o: Identity, fewer: Count)
+        ensures lowered { (x : declared.Identity) → row_at self.new x
+            ≡ (if same o x then option_map (spec.lowered fewer) (row_at self.old x) else row_at self.old x) }
+        ensures uses { object_room self.old ≤ object_room self.new }
+    {
+        if let Some(k) = self.slot_near(o, near) {
+            subtract_row(&mut self.rows, k, fewer);
+        }
+    }
+
+    /// The object's record counts none any more that the owner has to its own object.
+    pub fn remove_of_owner(&mut self, near: usize, o: Identity)
+        ensures disowned { (x : declared.Identity) → row_at self.new x
+            ≡ (if same o x then option_map spec.disowned (row_at self.old x) else row_at self.old x) }
+        ensures uses { object_room self.old ≤ object_room self.new }
+    {
+        if let Some(k) = self.slot_near(o, near) {
+            remove_of_owner_in(&mut self.rows, k);
+        }
+    }
+
+    /// Takes in an object's record, in place of one that it had, and answers its slot.
+    pub fn insert(&mut self, row: ObjectRow) -> usize
+        requires { 1 ≤ object_room self.old }
+        ensures at { (x : declared.Identity) → row_at self.new x
+            ≡ (if same row.object.id x then Some row else row_at self.old x) }
+        ensures uses { object_room self.old ≤ object_room self.new + 1 }
+    {
+        let k = insert_row(&mut self.rows, row);
+        if let Some(before) = insert_slot(&mut self.slots, row.object.id, k) {
+            remove_row(&mut self.rows, before);
+        }
+        k
+    }
+
+    /// The object's record goes, if it has one.
+    pub fn remove(&mut self, o: Identity, near: usize)
+        ensures at { (x : declared.Identity) → row_at self.new x ≡ (if same o x then None else row_at self.old x) }
+        ensures uses { object_room self.old ≤ object_room self.new }
+    {
+        if let Some(k) = self.slot_near(o, near) {
+            remove_row(&mut self.rows, k);
+            remove_slot(&mut self.slots, o);
+        }
+    }
+}

@@ -1,0 +1,268 @@
+//! Objects, names and references together.
+
+ghost use Rattle.std.specs.Prelude.{ℕ, ◌≡◌, ◌==◌, ◌≤◌, ◌+◌, ◌&&◌, ◌++◌, ◌∷◌, [], false, not, filter, map, List, OnOk, OnErr};
+ghost use Rattle.std.specs.List.{list_any};
+ghost use Rattle.bd_space.specs.{Words.{same, without_first}};
+ghost use Rattle.bd_space.specs.References as refer;
+ghost use Rattle.bd_space.specs.declared.space.{Object.{Object}, Reference.{Reference}};
+
+use crate::buffers::Buffers;
+use crate::names::Names;
+use crate::objects::Objects;
+use crate::owned::Owned;
+use crate::turning::{Near, turn};
+use bd_chains::Items;
+use bd_space::{Holder, Identity, Name, Origin, Reference};
+use std::alloc::{AllocError, Global};
+
+/// A space's objects, names and references.
+#[derive(Drop)]
+pub struct Records {
+    pub objects: Objects,
+    pub names: Names,
+    // The names that can be taken back.
+    pub(crate) given: Vec<Name>,
+    pub(crate) owned: Owned,
+    // Those that lie in buffers.
+    pub(crate) held: Buffers,
+    // So many references came in since the beginning: it bounds each counter.
+    pub(crate) made: u64,
+}
+
+/// How an object is referred to.
+#[derive(Clone, Copy)]
+pub struct Hold {
+    pub is_held: bool,
+    pub is_strong: bool,
+}
+
+// The objects of these references come behind what is there.
+fn push_objects(
+    references: Items<'_, Reference>,
+    touched: &mut Vec<Identity>,
+) -> Result<(), AllocError>
+    ensures { OnOk result (touched.new.items ≡ touched.old.items ++ map (λ r. r.object) references.entry) }
+{
+    for r in references {
+        touched.push(r.object)?;
+    }
+    Ok(())
+}
+
+impl Records {
+    ghost use Rattle.bd_records.specs.Records.{RecordsAre, IsHomed, Makes, Tells, TellsOfOthers, reference_room};
+    ghost use Rattle.bd_records.specs.NamesAre.{KeepsNames};
+
+    /// No objects, no references.
+    pub fn new(alloc: Global) -> Records
+        ensures { RecordsAre result [] [] }
+    {
+        Records {
+            objects: Objects::new(alloc),
+            names: Names::new(alloc),
+            given: Vec::new(alloc),
+            owned: Owned::new(alloc),
+            held: Buffers::new(alloc),
+            made: 0,
+        }
+    }
+
+    /// Makes room for more references, and changes nothing besides, whatever it answers.
+    pub fn reserve(&mut self, more: usize) -> Result<(), AllocError>
+        ensures stands { Makes self.old self.new (λ l. l) }
+        ensures uses { reference_room self.old ≤ reference_room self.new }
+        ensures room { OnOk result (more ≤ reference_room self.new) }
+        // Refused where there was no room: memory, or numbers for `made`.
+        ensures grown { OnErr result (more ≤ reference_room self.old → ⊥) }
+    {
+        if more as u64 > u64::MAX - self.made {
+            return Err(AllocError);
+        }
+        self.held.reserve(more)
+    }
+
+    /// How the object is referred to.
+    #[inline(always)]
+    pub fn hold(&self, o: Identity, near: usize) -> Hold
+        ensures held { Tells self.now result.is_held (λ l. refer.held_in l o) }
+        ensures strong { Tells self.now result.is_strong (λ l. refer.strong_in l o) }
+    {
+        match self.objects.row_near(o, near) {
+            Some(w) => Hold {
+                is_held: !w.total.is_empty(),
+                is_strong: w.total.strong > 0,
+            },
+            None => Hold {
+                is_held: false,
+                is_strong: false,
+            },
+        }
+    }
+
+    /// Whether the process asked for the object in this strength.
+    #[inline(always)]
+    pub fn is_asked(&self, p: u64, o: Identity, strong: bool, near: Near) -> bool
+        ensures { Tells self.now result (λ l. list_any (refer.is_asking p o strong) l) }
+    {
+        match self.names.row_near(p, o, near.number, near.process) {
+            Some(w) => w.asked.of(strong) > 0,
+            None => false,
+        }
+    }
+
+    /// Whether an acknowledgement of this strength is outstanding.
+    #[inline(always)]
+    pub fn is_shaken(&self, o: Identity, strong: bool, near: usize) -> bool
+        ensures { Tells self.now result (λ l. list_any (refer.is_shaking o strong) l) }
+    {
+        match self.objects.row_near(o, near) {
+            Some(w) => w.owed.of(strong) > 0,
+            None => false,
+        }
+    }
+
+    /// Whether a reference gives the process its name of the object: it asked, or a buffer in its window carries it. Of an
+    /// object that isn't its own.
+    #[inline(always)]
+    pub fn refers(&self, p: u64, o: Identity, near: Near) -> bool
+        ensures { TellsOfOthers self.now p o result
+            (λ l. list_any (λ r. same r.object o && refer.gives_name_to p r.holder) l) }
+    {
+        match self.names.row_near(p, o, near.number, near.process) {
+            Some(w) => !w.asked.is_empty() || !w.carried.is_empty(),
+            None => false,
+        }
+    }
+
+    /// The same, strongly.
+    #[inline(always)]
+    pub fn refers_strongly(&self, p: u64, o: Identity, near: Near) -> bool
+        ensures { TellsOfOthers self.now p o result
+            (λ l. list_any (λ r. r.strong && same r.object o && refer.gives_name_to p r.holder) l) }
+    {
+        match self.names.row_near(p, o, near.number, near.process) {
+            Some(w) => w.asked.strong > 0 || w.carried.strong > 0,
+            None => false,
+        }
+    }
+
+    /// Takes in a reference, of which there is a record for each counter (`IsHomed`).
+    pub fn push(&mut self, r: Reference, near: Near)
+        requires { 1 ≤ reference_room self.old }
+        ensures stands { (objects : List Object) (l : List Reference) → IsHomed self.old objects r
+            → RecordsAre self.old objects l → RecordsAre self.new objects (l ++ r ∷ []) }
+        ensures names { KeepsNames self.old.names self.new.names }
+        ensures uses { reference_room self.old ≤ reference_room self.new + 1 }
+    {
+        turn(&mut self.objects, &mut self.names, r, true, near);
+        self.held.push(r);
+        self.made = self.made.saturating_add(1);
+    }
+
+    /// Drops the oldest reference of this strength that the process asked for, if there is one.
+    pub fn drop_asked(&mut self, p: u64, o: Identity, strong: bool, near: Near)
+        ensures stands { Makes self.old self.new (λ l. without_first (refer.is_asking p o strong) l) }
+        ensures names { KeepsNames self.old.names self.new.names }
+        ensures uses { reference_room self.old ≤ reference_room self.new }
+    {
+        if self.is_asked(p, o, strong, near) {
+            let r = Reference {
+                id: Origin { place: 0, index: 0 },
+                object: o,
+                strong,
+                holder: Holder::Asked(p),
+            };
+            turn(&mut self.objects, &mut self.names, r, false, near);
+        }
+    }
+
+    /// Drops the oldest reference of this strength that stands for an acknowledgement, if there is one.
+    pub fn drop_shaken(&mut self, o: Identity, strong: bool, near: Near)
+        ensures stands { Makes self.old self.new (λ l. without_first (refer.is_shaking o strong) l) }
+        ensures names { KeepsNames self.old.names self.new.names }
+        ensures uses { reference_room self.old ≤ reference_room self.new }
+    {
+        if self.is_shaken(o, strong, near.object) {
+            let r = Reference {
+                id: Origin { place: 0, index: 0 },
+                object: o,
+                strong,
+                holder: Holder::Handshake,
+            };
+            turn(&mut self.objects, &mut self.names, r, false, near);
+        }
+    }
+
+    /// The references go that the owner has to its own object: what it is to acknowledge, and the context manager's.
+    pub fn remove_of_owner(&mut self, o: Identity, near: usize)
+        ensures stands { Makes self.old self.new (λ l. filter (λ r. not (same r.object o && refer.is_of_owner r.holder)) l) }
+        ensures names { KeepsNames self.old.names self.new.names }
+        ensures uses { reference_room self.old ≤ reference_room self.new }
+    {
+        self.objects.remove_of_owner(near, o);
+    }
+
+    /// Drops all references to the object that the process asked for.
+    pub fn drop_all_asked(&mut self, p: u64, o: Identity, near: Near)
+        ensures stands { Makes self.old self.new (λ l. filter (λ r. not (same r.object o && refer.is_asked_by p r.holder)) l) }
+        ensures names { KeepsNames self.old.names self.new.names }
+        ensures uses { reference_room self.old ≤ reference_room self.new }
+    {
+        if let Some(w) = self.names.row_near(p, o, near.number, near.process) {
+            self.objects.subtract(near.object, o, w.asked);
+            self.names.clear_asked(p, o, near.number, near.process);
+        }
+    }
+
+    /// The objects to which the buffer refers, put after what is there. Fails for want of memory alone.
+    pub fn referred(&self, b: u64, touched: &mut Vec<Identity>) -> Result<(), AllocError>
+        ensures { OnOk result (Tells self.now touched.new.items (λ l. touched.old.items ++ map (λ r. r.object) (filter
+            (λ r. refer.is_of_buffer b r.holder) l))) }
+    {
+        push_objects(self.held.of(b), touched)
+    }
+
+    // Drops the oldest reference in the buffer, if one lies in it. Its records are found by their keys.
+    fn pop_held(&mut self, b: u64) -> bool
+        ensures stands { Makes self.old self.new (λ l. without_first (λ r. refer.is_of_buffer b r.holder) l) }
+        ensures any { Tells self.old result (λ l. list_any (λ r. refer.is_of_buffer b r.holder) l) }
+        ensures names { KeepsNames self.old.names self.new.names }
+        ensures uses { reference_room self.old ≤ reference_room self.new }
+    {
+        let near = Near {
+            object: 0,
+            number: 0,
+            process: 0,
+        };
+        match self.held.pop(b) {
+            Some(r) => {
+                turn(&mut self.objects, &mut self.names, r, false, near);
+                true
+            }
+            None => false,
+        }
+    }
+
+    // Drops one after the other, until none lies in the buffer.
+    fn remove_each(&mut self, b: u64)
+        ensures stands { Makes self.old self.new (λ l. filter (λ r. not (refer.is_of_buffer b r.holder)) l) }
+        ensures names { KeepsNames self.old.names self.new.names }
+        ensures uses { reference_room self.old ≤ reference_room self.new }
+    {
+        for _ in 0..self.held.len() {
+            if !self.pop_held(b) {
+                return;
+            }
+        }
+    }
+
+    /// Drops all references that lie in the buffer.
+    pub fn remove_buffer(&mut self, b: u64)
+        ensures stands { Makes self.old self.new (λ l. filter (λ r. not (refer.is_of_buffer b r.holder)) l) }
+        ensures names { KeepsNames self.old.names self.new.names }
+        ensures uses { reference_room self.old ≤ reference_room self.new }
+    {
+        self.remove_each(b);
+        self.held.close(b);
+    }
+}

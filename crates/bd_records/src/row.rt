@@ -1,0 +1,23 @@
+//! The records of an object, and of a name.
+
+use crate::count::Count;
+use bd_space::{Identity, Object};
+
+/// An object, and how many references there are to it: in all, those that its owner has yet to acknowledge, and the context
+/// manager's.
+#[derive(Clone, Copy)]
+pub struct ObjectRow {
+    pub object: Object,
+    pub total: Count,
+    pub owed: Count,
+    pub managed: Count,
+}
+
+/// What a process knows an object by, with counts of what gives it this name: its own asking, and buffers in its window
+/// that carry the object.
+#[derive(Clone, Copy)]
+pub struct NameRow {
+    pub object: Identity,
+    pub asked: Count,
+    pub carried: Count,
+}
