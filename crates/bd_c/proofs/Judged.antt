@@ -1,6 +1,6 @@
 -- What is said of a journal, or why nothing is.
 use Rattle.std.proofs.Common.{◌≡◌, List, ℕ, subst}
-use Rattle.bd_space.specs.declared.record.Record.{Record}
+use Rattle.bd_spelling.specs.declared.record.Record.{Record}
 use Rattle.bd_journal.specs.Cut.{HasHeading, IsUnread}
 use Rattle.bd_journal.specs.Spelling.{Tells as IsJournalOf}
 use Rattle.bd_spelling.specs.declared.fault.ReadError.{ReadError}

@@ -9,9 +9,8 @@ ghost use Rattle.bd_space.specs.Runs.{HasRun, HasEntry, IsAtLimit, answered};
 ghost use Rattle.bd_step.specs.{Plain.{IsBrief, IsGot}, declared.answer.Brief.TheVariants.{Got}};
 ghost use Rattle.bd_engine.specs.{Refusals.{FullOnly, MemoryOnly}, Writing.{IsTurnedAway, IsWrite, IsOneStep}};
 
-use crate::again::Again;
 use crate::wide::WideEngine;
-use bd_space::{Answer, Request, Step, StepAnswer};
+use bd_space::{Answer, Entry, Request, Step, StepAnswer};
 use bd_step::{Brief, Plain, StepError};
 use bd_uapi::Fault;
 
@@ -95,11 +94,12 @@ impl WideEngine {
         ensures memory { IfErr result (λ why. MemoryOnly why (HasPlace self.old)) }
     {
         let from = self.len();
-        let mut again = Again::new();
-        match self.step_in_place(seat, step, &mut again) {
+        let answer = StepAnswer::Exited;
+        let mut entry = Entry { seat, step, answer };
+        match self.step_in_place(&mut entry) {
             Err(why) => Err(why),
             Ok(brief) => Ok(Ran {
-                answer: answered(brief, again.answer),
+                answer: answered(brief, entry.answer),
                 from,
                 to: self.len(),
             }),

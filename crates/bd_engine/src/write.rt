@@ -13,11 +13,10 @@ ghost use Rattle.bd_step.specs.Plain.{IsBrief};
 ghost use Rattle.bd_engine.specs.Writing.{HasCome, IsSame, IsAt, IsAfter, IsCourse, IsCutAt, IsTurnedAway, IsNext, refused};
 ghost use Rattle.bd_engine.specs.Writing.{Ends, course_of, course_or, ended};
 
-use crate::again::Again;
 use crate::parcel::parcel_for;
 use crate::wide::WideEngine;
 use bd_codec::read_command;
-use bd_space::{Answer, Notes, Step, Stop};
+use bd_space::{Answer, Entry, Notes, Step, StepAnswer, Stop};
 use bd_step::{Brief, Plain, StepError};
 use bd_uapi::{Command, Fault, Note};
 use std::alloc::AllocError;
@@ -192,9 +191,10 @@ impl WideEngine {
         let Ok(parcel) = parcel_for(self.alloc(), area, &command) else {
             return Err(StepError::NoMemory);
         };
-        // A command reads nothing, so nothing is written here.
-        let mut again = Again::new();
-        self.step_in_place(seat, Step::Command { command, parcel }, &mut again)
+        let step = Step::Command { command, parcel };
+        let answer = StepAnswer::Exited;
+        let mut entry = Entry { seat, step, answer };
+        self.step_in_place(&mut entry)
     }
 
     // Runs the next command of a write, of this size.

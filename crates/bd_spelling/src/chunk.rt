@@ -143,6 +143,8 @@ impl ChunkReader<'_> {
     pub fn next(&mut self, alloc: Global) -> Result<Option<Entry>, AllocError>
         ensures next { IfOk result (λ e. MatchOption e (self.old ≡ []) (λ x. self.old ≡ x ∷ self.new)) }
         ensures err { OnErr result (self.new ≡ self.old) }
+        // Memory was asked for: an entry was left.
+        ensures grown { OnErr result (self.old ≡ [] → ⊥) }
     {
         if self.left == 0 {
             return Ok(None);

@@ -75,6 +75,8 @@ impl Log {
     pub fn reserve(&mut self, bytes: usize) -> Result<(), AllocError>
         ensures entries { self.new.entries ≡ self.old.entries }
         ensures room { OnOk result (bytes ≤ self.new.room) }
+        // Memory was asked for: the room was less.
+        ensures grown { OnErr result (self.old.room < bytes) }
     {
         if bytes <= self.last.room() {
             return Ok(());
@@ -103,6 +105,9 @@ impl Log {
     pub fn append(&mut self, entry: &Entry) -> Result<(), AllocError>
         ensures added { OnOk result (self.new.entries ≡ self.old.entries ++ entry.now ∷ []) }
         ensures err { OnErr result (self.new.entries ≡ self.old.entries) }
+        // Memory was asked for, where there is a spelling and a number for the entry: the room was less.
+        ensures grown { OnErr result (IsEntry every_seat entry.now → length self.old.entries + 1 < 18446744073709551616
+            → self.old.room < length (entry_bytes entry.now)) }
     {
         if self.count == usize::MAX || entry.seat == EVERY_SEAT {
             return Err(AllocError);
@@ -128,7 +133,9 @@ impl Log {
 
     /// The entries themselves, in a vector. Errors: memory was refused.
     pub fn copied(&self, alloc: Global) -> Result<Vec<Entry>, AllocError>
-        ensures { IfOk result (λ v. v.items ≡ self.now.entries) }
+        ensures copied { IfOk result (λ v. v.items ≡ self.now.entries) }
+        // Memory was asked for: none is for no entries.
+        ensures grown { OnErr result (self.now.entries ≡ [] → ⊥) }
     {
         let mut entries = Vec::new(alloc);
         for chunk in &self.full {
@@ -158,7 +165,8 @@ fn append(
     mut from: ChunkReader<'_>,
     entries: &mut Vec<Entry>,
 ) -> Result<(), AllocError>
-    ensures { OnOk result (entries.new.items ≡ entries.old.items ++ from.entry) }
+    ensures all { OnOk result (entries.new.items ≡ entries.old.items ++ from.entry) }
+    ensures grown { OnErr result (from.entry ≡ [] → ⊥) }
 {
     for _ in 0..from.len() {
         match from.next(alloc)? {
@@ -195,6 +203,8 @@ impl LogReader<'_> {
     pub fn next(&mut self, alloc: Global) -> Result<Option<Entry>, AllocError>
         ensures next { IfOk result (λ e. MatchOption e (self.old ≡ []) (λ x. self.old ≡ x ∷ self.new)) }
         ensures err { OnErr result (self.new ≡ self.old) }
+        // Memory was asked for: an entry was left.
+        ensures grown { OnErr result (self.old ≡ [] → ⊥) }
     {
         while self.here.len() == 0 {
             let next = match self.rest.split_first() {
