@@ -1,7 +1,7 @@
 //! The entries of a history while a step is made.
 
 ghost use Rattle.std.specs.Prelude.{◌≡◌, length, OnOk};
-ghost use Rattle.bd_spelling.specs.Spelling.{IsBlock, IsStep, step_bytes};
+ghost use Rattle.bd_spelling.specs.Spelling.{IsBlock, IsStep, SpellsCommand, step_bytes};
 ghost use Rattle.bd_step.specs.declared.answer.Plain as words;
 ghost use Rattle.bd_step.specs.Plain.{answer_of};
 ghost use Rattle.bd_engine.specs.Entering.{HasRoom};
@@ -19,15 +19,16 @@ pub(crate) struct Entering {
 }
 
 impl Entering {
-    // Makes room for the entry of a step which has an answer without blocks. Errors: memory was refused, or no journal spells the
-    // step.
-    pub fn begin(&mut self, step: &Step) -> Result<(), AllocError>
+    // Makes room for the entry of a step which has an answer without blocks. These bytes spell its command. Errors: memory was
+    // refused, or no journal spells the step.
+    pub fn begin(&mut self, step: &Step, command: &[u8]) -> Result<(), AllocError>
+        requires { SpellsCommand step.now command.now }
         ensures entries { self.new.log.entries ≡ self.old.log.entries }
         ensures spelled { OnOk result (IsStep step.now × IsBlock (step_bytes step.now)) }
         ensures len { OnOk result (self.new.step ≡ length (step_bytes step.now)) }
         ensures plain { OnOk result ((x : words.Plain) → HasRoom self.new.log.room self.new.step (answer_of x)) }
     {
-        match step_len(step) {
+        match step_len(step, command) {
             Some(len) => {
                 self.step = len;
                 self.log.reserve(14 + len as usize)

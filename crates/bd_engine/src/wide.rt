@@ -5,6 +5,7 @@ ghost use Rattle.bd_uapi.specs.Limits.{most_seats};
 ghost use Rattle.bd_space.specs.Histories as histories;
 ghost use Rattle.bd_space.specs.Histories.{most_steps};
 ghost use Rattle.bd_space.specs.Steps as steps;
+ghost use Rattle.bd_spelling.specs.Spelling.{SpellsCommand};
 ghost use Rattle.bd_step.specs.Plain.{IsBrief};
 ghost use Rattle.bd_engine.specs.Refusals.{FullOnly, MemoryOnly, IsLiveSeats, IsLiveSeatFault};
 ghost use Rattle.bd_step.specs.declared.step_error.StepError.TheVariants.{NoMemory};
@@ -13,7 +14,7 @@ use crate::entering::Entering;
 use crate::live::Live;
 use crate::tables::HasTables;
 use bd_space::{Entry, Step, StepAnswer};
-use bd_spelling::{Entries, Log, Record};
+use bd_spelling::{Entries, Log, Record, command_of};
 use bd_step::{Brief, StepError, Tables};
 use bd_uapi::{Fault, Note};
 use std::alloc::{AllocError, Global};
@@ -192,19 +193,25 @@ impl WideEngine {
         // It has as many seats as before.
         ensures seats { self.new.seats ≡ self.old.seats }
     {
+        let spelling = command_of(&step);
         let answer = StepAnswer::Exited;
         let mut entry = Entry { seat, step, answer };
-        match self.step_in_place(&mut entry) {
+        match self.step_in_place(&mut entry, spelling.as_slice()) {
             Ok(_) => Ok(entry.answer),
             Err(why) => Err(why),
         }
     }
 
-    // Makes the step of an entry, whose answer is written into it, and has that in brief. Room for the entry is there before the tables
-    // change, so what was made is entered without memory.
+    // Makes the step of an entry, whose answer is written into it, and has that in brief. The step's command, if it is one, is spelled by
+    // these bytes. Room for the entry is there before the tables change, so what was made is entered without memory.
     #[inline(always)]
-    pub(crate) fn step_in_place(&mut self, entry: &mut Entry) -> Result<Brief, StepError>
-        requires { entry.old.seat < self.old.seats }
+    pub(crate) fn step_in_place(
+        &mut self,
+        entry: &mut Entry,
+        command: &[u8],
+    ) -> Result<Brief, StepError>
+        requires seat { entry.old.seat < self.old.seats }
+        requires command { SpellsCommand entry.old.step command.now }
         ensures brief { IfOk result (λ x. IsBrief x entry.new.answer) }
         ensures answer { OnOk result (entry.new.answer ≡ (steps.step (histories.space_after self.old) entry.old.seat entry.old.step).answer) }
         ensures history { OnOk result (self.new ≡ histories.extended self.old entry.old.seat entry.old.step entry.new.answer) }
@@ -215,13 +222,13 @@ impl WideEngine {
         if self.is_full() {
             return Err(StepError::HistoryFull);
         }
-        if self.entries.begin(&entry.step).is_err() {
+        if self.entries.begin(&entry.step, command).is_err() {
             return Err(StepError::NoMemory);
         }
         match self.live.make(entry, &mut self.entries) {
             Ok(brief) => {
                 self.live.refresh_ready();
-                self.entries.log.push(entry);
+                self.entries.log.push(entry, command);
                 Ok(brief)
             }
             Err(why) => Err(why),

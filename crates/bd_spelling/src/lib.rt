@@ -25,4 +25,4 @@ pub use reading::entry_at;
 pub use record::{Entries, Record};
 pub use sending::{send, send_all};
 pub use versions::Version;
-pub use writing::{answer_len, step_len, write_entry};
+pub use writing::{answer_len, command_of, step_len, write_entry};

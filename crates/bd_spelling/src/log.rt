@@ -2,14 +2,14 @@
 
 ghost use Rattle.std.specs.Prelude.{◌≡◌, ◌+◌, ◌++◌, ◌∷◌, ◌≤◌, ◌<◌, [], length, IfOk, OnOk, OnErr, Some, MatchOption};
 ghost use Rattle.std.specs.List.{flat_map};
-ghost use Rattle.bd_spelling.specs.Spelling.{IsEntry, entry_bytes};
+ghost use Rattle.bd_spelling.specs.Spelling.{IsEntry, SpellsCommand, entry_bytes};
 ghost use Rattle.bd_spelling.specs.Logged.{AreSeatsOf, every_seat};
 ghost use Rattle.bd_spelling.specs.Writing.{Sends};
 
 use crate::chunk::{Chunk, ChunkReader, EVERY_SEAT};
 use crate::fault::Refused;
 use crate::sending::send;
-use crate::writing::{answer_len, step_len};
+use crate::writing::{answer_len, command_of, step_len};
 use bd_space::Entry;
 use std::alloc::{AllocError, Global};
 use std::io::Write;
@@ -88,15 +88,16 @@ impl Log {
         Ok(())
     }
 
-    /// Adds an entry that a journal spells and for which room was made. It can't fail.
-    pub fn push(&mut self, entry: &Entry)
+    /// Adds an entry that a journal spells, whose command these bytes spell, and for which room was made. It can't fail.
+    pub fn push(&mut self, entry: &Entry, command: &[u8])
+        requires command { SpellsCommand entry.now.step command.now }
         requires spelled { IsEntry every_seat entry.now }
         requires room { length (entry_bytes entry.now) ≤ self.old.room }
         requires count { length self.old.entries + 1 < 18446744073709551616 }
         ensures entries { self.new.entries ≡ self.old.entries ++ entry.now ∷ [] }
         ensures room { self.old.room ≤ self.new.room + length (entry_bytes entry.now) }
     {
-        self.last.push(entry);
+        self.last.push(entry, command);
         self.count += 1;
         self.seats = self.seats.max(entry.seat + 1);
     }
@@ -112,11 +113,14 @@ impl Log {
         if self.count == usize::MAX || entry.seat == EVERY_SEAT {
             return Err(AllocError);
         }
-        let (Some(step), Some(answer)) = (step_len(&entry.step), answer_len(&entry.answer)) else {
+        let spelling = command_of(&entry.step);
+        let command = spelling.as_slice();
+        let (Some(step), Some(answer)) = (step_len(&entry.step, command), answer_len(&entry.answer))
+        else {
             return Err(AllocError);
         };
         self.reserve(12 + step as usize + answer as usize)?;
-        self.push(entry);
+        self.push(entry, command);
         Ok(())
     }
 
