@@ -11,6 +11,8 @@ use Rattle.bd_audit.specs.declared.judge.Judge.{Judge}
 use Rattle.bd_audit.specs.Judging.{HasJudged}
 use Rattle.bd_audit.specs.Replays.{with_entry, beginning, IsEntryAt, IfUnlawful, fault_of}
 use Rattle.bd_laws.proofs.Tests.{both}
+use Rattle.std.specs.Prelude.{Option, None, MatchOption}
+use Rattle.std.proofs.lemmas.List.{drop_more, length-drop, take-take}
 use Rattle.std.proofs.lemmas.List.Folds.{list_all-append}
 use Rattle.std.proofs.lemmas.Option.{slice_get_within, get_or_from_slice_get}
 
@@ -146,3 +148,28 @@ all_played h g i es at_i same_es le =
 
 pub judged_all : (h : History) (i : ℕ) (es : List Entry) (j : Judge) → es ≡ h.entries → length es ≤ i → HasJudged j (beginning i h) → HasJudged j h
 judged_all h i es j same_es le seen = subst (HasJudged j) (all_played h (beginning i h) i es refl same_es le) seen
+
+-- ---- what a reader of the entries comes to
+
+pub read_some : (o : Option Entry) (old new : List Entry) (e : Entry) → o ≡ Some e → MatchOption o (old ≡ []) (λ x. old ≡ x ∷ new) → old ≡ e ∷ new
+read_some o old new e is next = subst (λ (p : Option Entry). MatchOption p (old ≡ []) (λ x. old ≡ x ∷ new)) is next
+
+pub read_none : (o : Option Entry) (old new : List Entry) → o ≡ None → MatchOption o (old ≡ []) (λ x. old ≡ x ∷ new) → old ≡ []
+read_none o old new is next = subst (λ (p : Option Entry). MatchOption p (old ≡ []) (λ x. old ≡ x ∷ new)) is next
+
+-- it isn't at the end before it took them all
+pub not_at_end : (es rest : List Entry) (i : ℕ) → i < length es → rest ≡ drop i es → rest ≡ [] → ⊥
+not_at_end es rest i below is none = omega (arith, below, ap length (sym is ∙ none), length-drop i es)
+
+-- and takes next the one at the place to which it came
+pub taken_next : (es old new : List Entry) (i : ℕ) (e : Entry) → i < length es → old ≡ drop i es → old ≡ e ∷ new → (e ≡ get_or es i e) × (new ≡ drop (i + 1) es)
+taken_next es old new i e below is next =
+    let both = sym next ∙ is ∙ drop_more es i e below in
+    (ap (λ (l : List Entry). get_or l 0 e) both, ap (drop 1) both)
+
+-- what is next of entries of which the first are a history
+pub front_lawful : (h g : History) (count i : ℕ) (e : Entry) → IsHistory (beginning count h) → count ≤ length h.entries → i < count → g ≡ beginning i h → e ≡ get_or h.entries i e → IsHistory (with_entry g e)
+front_lawful h g count i e lawful inside below at found =
+    let next = one_next h g i e h.entries at refl (omega arith) found in
+    let front : beginning (i + 1) (beginning count h) ≡ beginning (i + 1) h = ap (λ es. let k : History = record { seats = h.seats; entries = es } in k) (take-take (i + 1) count h.entries (omega arith)) in
+    subst IsHistory (front ∙ sym next) (take_history (i + 1) (beginning count h) lawful)

@@ -3,7 +3,8 @@ use Rattle.std.proofs.Common.{◌≡◌, ◌+◌, ℕ, List, [], ◌∷◌, ◌+
 use Rattle.std.proofs.lemmas.List.{append-nil, length-append}
 use Rattle.std.proofs.lemmas.Option.{none-some}
 use Rattle.bd_space.specs.Histories.{History, history_of}
-use Rattle.bd_space.specs.declared.{record.Record.{Record}, step.Entry.{Entry}}
+use Rattle.bd_space.specs.declared.step.Entry.{Entry}
+use Rattle.bd_spelling.specs.declared.record.Record.{Record}
 use Rattle.bd_spelling.specs.declared.fault.ReadError.{ReadError}
 use Rattle.bd_spelling.specs.declared.fault.ReadError.TheVariants.{Malformed, Memory}
 use Rattle.bd_journal.specs.declared.steps.JournalReader.{JournalReader}

@@ -1,7 +1,9 @@
 -- What is told of a journal's entries.
 use Rattle.std.specs.Prelude.{◌≡◌, ℕ, List, ◌++◌, length, Option, Some}
-use Rattle.bd_space.specs.Histories.{History, history_in, history_of}
-use Rattle.bd_space.specs.declared.{record.Record.{Record}, step.Entry.{Entry}}
+use Rattle.bd_space.specs.Histories.{History, history_of}
+use Rattle.bd_spelling.specs.Records.{history_in}
+use Rattle.bd_space.specs.declared.step.Entry.{Entry}
+use Rattle.bd_spelling.specs.declared.record.Record.{Record}
 use Rattle.bd_journal.specs.{Cut.{IsCut}, Spelling.{Tells}}
 use Rattle.bd_audit.specs.Judging.{HasJudged, IsStop}
 use Rattle.bd_audit.specs.declared.{judge.Judge.{Judge}, journals.Judgment.{Judgment}}

@@ -3,14 +3,16 @@
 ghost use Rattle.std.specs.Prelude.{◌≡◌, IfOk, IfErr, IfSome, MatchResult, is_some};
 ghost use Rattle.bd_engine.specs.Refusals.{IsLiveSeats};
 ghost use Rattle.bd_uapi.specs.declared.fault.Fault.TheVariants as faults;
-ghost use Rattle.bd_space.specs.Histories.{IsHistory, space_after, history_in};
+ghost use Rattle.bd_space.specs.Histories.{IsHistory, space_after};
+ghost use Rattle.bd_spelling.specs.Records.{history_in};
 ghost use Rattle.bd_engine.specs.Looks as looks;
 ghost use Rattle.bd_audit.specs.{Replays.{with_entry}, Gifts.{IsChainOf}};
 ghost use Rattle.bd_audit.specs.GiftSearch as spec;
 
 use crate::playing::advance;
 use bd_engine::{Looks, WideEngine};
-use bd_space::{Entry, Identity, Record};
+use bd_space::{Entry, Identity};
+use bd_spelling::Record;
 use bd_uapi::Fault;
 use std::alloc::Global;
 
@@ -143,20 +145,21 @@ fn next_gift(
 // The gifts by which names for the object began, in the order of their places.
 fn gifts_of(
     alloc: Global,
-    history: &Record,
+    seats: u32,
+    entries: &[Entry],
     receivers: &[Option<u64>],
     object: Identity,
 ) -> Result<Vec<Gift>, Fault>
-    requires seats { IsLiveSeats history.now.seats }
-    requires lawful { IsHistory (history_in history.now) }
-    requires receivers { spec.AreReceivers history.now.entries receivers.now }
-    ensures { MatchResult result (λ v. spec.AreGifts history.now.entries object v.items) (λ f. f ≡ faults.NoMemory) }
+    requires seats { IsLiveSeats seats }
+    requires lawful { IsHistory (record { seats = seats; entries = entries.now }) }
+    requires receivers { spec.AreReceivers entries.now receivers.now }
+    ensures { MatchResult result (λ v. spec.AreGifts entries.now object v.items) (λ f. f ≡ faults.NoMemory) }
 {
-    let Ok(mut engine) = WideEngine::new(alloc, history.seats) else {
+    let Ok(mut engine) = WideEngine::new(alloc, seats) else {
         return Err(Fault::NoMemory);
     };
     let mut gifts = Vec::new(alloc);
-    for entry in history.entries.as_slice() {
+    for entry in entries {
         let receiver = receivers[engine.len() as usize];
         if let Some(gift) = next_gift(&mut engine, entry, receiver, object)? {
             if gifts.push(gift).is_err() {
@@ -215,11 +218,20 @@ pub fn gift_chain(
     ensures none { IfOk result (λ c. is_some c ≡ is_some (looks.named_by (space_after (history_in history.now)) pid number)) }
     ensures fault { IfErr result (λ f. f ≡ faults.NoMemory) }
 {
-    let first = receivers_of(alloc, history.seats, history.entries.as_slice())?;
+    let Ok(entries) = history.entries.copied(alloc) else {
+        return Err(Fault::NoMemory);
+    };
+    let first = receivers_of(alloc, history.seats, &entries)?;
     let Some(holder) = holder_in(&first.engine, pid, number) else {
         return Ok(None);
     };
-    let gifts = gifts_of(alloc, history, &first.receivers, holder.object)?;
+    let gifts = gifts_of(
+        alloc,
+        history.seats,
+        &entries,
+        &first.receivers,
+        holder.object,
+    )?;
     let places = way_to(alloc, gifts, holder.process)?;
     Ok(Some(places))
 }

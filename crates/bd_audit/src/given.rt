@@ -3,13 +3,15 @@
 ghost use Rattle.std.specs.Prelude.{◌≡◌, IfOk, IfErr};
 ghost use Rattle.bd_engine.specs.Refusals.{IsLiveSeats};
 ghost use Rattle.bd_uapi.specs.declared.fault.Fault.TheVariants as faults;
-ghost use Rattle.bd_space.specs.Histories.{IsHistory, history_in};
+ghost use Rattle.bd_space.specs.Histories.{IsHistory};
+ghost use Rattle.bd_spelling.specs.Records.{history_in};
 ghost use Rattle.bd_audit.specs.Given as spec;
 ghost use Rattle.bd_audit.specs.Replays.{beginning};
 
 use crate::playing::entry_at;
 use bd_engine::{StepError, WideEngine};
-use bd_space::{Entry, Record, StepAnswer};
+use bd_space::{Entry, StepAnswer};
+use bd_spelling::Record;
 use bd_uapi::Fault;
 use std::alloc::Global;
 
@@ -49,7 +51,7 @@ pub fn given_at(alloc: Global, record: &Record, place: u32) -> Result<Given, Fau
     ensures fault { IfErr result (λ f. f ≡ faults.NoMemory) }
 {
     match entry_at(alloc, record, place)? {
-        Some((engine, entry)) => given_to(engine, entry),
+        Some((engine, entry)) => given_to(engine, &entry),
         None => Ok(Given::NoStep),
     }
 }

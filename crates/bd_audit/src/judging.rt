@@ -1,17 +1,19 @@
 //! Whether a record is a history.
 
-ghost use Rattle.std.specs.Prelude.{◌≡◌, ◌<◌, true, false, length, IfOk, IfErr, OnErr, MatchResult};
+ghost use Rattle.std.specs.Prelude.{◌≡◌, ◌<◌, ◌≤◌, true, false, length, IfOk, IfErr, OnErr, MatchResult};
 ghost use Rattle.bd_engine.specs.{Follows.{Follows}, Refusals.{IsLiveSeats}};
 ghost use Rattle.bd_uapi.specs.declared.fault.Fault.TheVariants as faults;
-ghost use Rattle.bd_space.specs.Histories.{History, HasLivePlace, IsHistory, IsLawful, history_in, history_of};
+ghost use Rattle.bd_space.specs.Histories.{History, HasLivePlace, IsHistory, IsLawful};
+ghost use Rattle.bd_spelling.specs.Records.{history_in};
 ghost use Rattle.bd_audit.specs.Replays as spec;
 ghost use Rattle.bd_audit.specs.Judging.{IsStop};
-ghost use Rattle.bd_audit.specs.Replays.{with_entry, Begins, IfUnlawful, IfNoMemory, StopsAt};
+ghost use Rattle.bd_audit.specs.Replays.{with_entry, beginning, Begins, IfUnlawful, IfNoMemory, StopsAt};
 
 use crate::answers::is_same_answer;
 use crate::judge::Judge;
 use bd_engine::{Live, StepError, WideEngine};
-use bd_space::{Entry, Record};
+use bd_space::Entry;
+use bd_spelling::Record;
 use bd_uapi::Fault;
 use std::alloc::{AllocError, Global};
 
@@ -103,29 +105,33 @@ impl Watch for Unwatched {
     fn follow(&mut self, _done: usize, _all: usize) {}
 }
 
-// The place of the first of these entries that doesn't follow from those before; None where all do. Tells how far it is.
+// The place of the first of so many entries that doesn't follow from those before; None where all do. Tells how far it is.
 fn first_unlawful<W: Watch>(
     alloc: Global,
-    seats: u32,
-    entries: &[Entry],
+    record: &Record,
+    count: usize,
     watch: &mut W,
 ) -> Result<Option<u64>, Fault>
-    requires seats { IsLiveSeats seats }
-    ensures { MatchResult result (IsStop (history_of seats entries.now)) (λ f. f ≡ faults.NoMemory) }
+    requires seats { IsLiveSeats «record».now.seats }
+    requires inside { count ≤ length «record».now.entries }
+    ensures { MatchResult result (IsStop (beginning count (history_in «record».now))) (λ f. f ≡ faults.NoMemory) }
 {
-    let mut judge = Judge::new(alloc, seats)?;
-    let mut done = 0;
-    for entry in entries {
-        judge.see(entry)?;
-        done += 1;
-        watch.follow(done, entries.len());
+    let mut judge = Judge::new(alloc, record.seats)?;
+    let mut entries = record.entries.reader();
+    for done in 0..count {
+        match entries.next(alloc) {
+            Ok(Some(entry)) => judge.see(&entry)?,
+            Ok(None) => unreachable!(),
+            Err(_) => return Err(Fault::NoMemory),
+        }
+        watch.follow(done + 1, count);
     }
     Ok(judge.stopped())
 }
 
 /// Judges a record: Ok where it is a history and nowhere else; `Unlawful` tells up to which entry it is one. An entry for
 /// which a history has no place, or no handle left, is unlawful. No second copy of the record is made: the entries are
-/// judged one after the other over what those before have come to.
+/// read and judged one after the other over what those before have come to.
 pub fn replay(alloc: Global, record: &Record) -> Result<(), AuditFault>
     requires seats { IsLiveSeats «record».now.seats }
     ensures history { MatchResult result (λ _. IsHistory (history_in «record».now)) (λ f. IfUnlawful f (λ at. IsHistory (history_in «record».now) → ⊥)) }
@@ -144,12 +150,12 @@ pub fn replay_watched<W: Watch>(
     ensures history { MatchResult result (λ _. IsHistory (history_in «record».now)) (λ f. IfUnlawful f (λ at. IsHistory (history_in «record».now) → ⊥)) }
     ensures first { IfErr result (λ f. IfUnlawful f (StopsAt (history_in «record».now))) }
 {
-    let entries = record.entries.as_slice();
+    let len = record.entries.len();
     // A history has places for so many.
-    let placed = &entries[..entries.len().min(MOST_STEPS)];
-    match first_unlawful(alloc, record.seats, placed, watch) {
+    let placed = len.min(MOST_STEPS);
+    match first_unlawful(alloc, record, placed, watch) {
         Ok(Some(at)) => Err(AuditFault::Unlawful { at: at as u32 }),
-        Ok(None) if placed.len() < entries.len() => Err(AuditFault::Unlawful { at: u32::MAX }),
+        Ok(None) if placed < len => Err(AuditFault::Unlawful { at: u32::MAX }),
         Ok(None) => Ok(()),
         Err(_) => Err(AuditFault::NoMemory),
     }

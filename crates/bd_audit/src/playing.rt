@@ -1,14 +1,16 @@
 //! The steps of a history, made again.
 
-ghost use Rattle.std.specs.{Prelude.{◌≡◌, ◌≤◌, length, None, IfOk, IfErr, MatchOption, MatchResult}, List.{slice_get}};
+ghost use Rattle.std.specs.{Prelude.{◌≡◌, ◌≤◌, length, drop, None, IfOk, IfErr, OnOk, MatchOption, MatchResult}, List.{slice_get}};
 ghost use Rattle.bd_engine.specs.Refusals.{IsLiveSeats};
 ghost use Rattle.bd_uapi.specs.declared.fault.Fault.TheVariants as faults;
-ghost use Rattle.bd_space.specs.Histories.{IsHistory, history_in};
+ghost use Rattle.bd_space.specs.Histories.{IsHistory, history_of};
+ghost use Rattle.bd_spelling.specs.Records.{history_in};
 ghost use Rattle.bd_audit.specs.Replays.{with_entry, beginning, IsEntryAt};
 
 use crate::judging::{AuditFault, accept};
 use bd_engine::WideEngine;
-use bd_space::{Entry, Record};
+use bd_space::Entry;
+use bd_spelling::{LogReader, Record};
 use bd_uapi::Fault;
 use std::alloc::Global;
 
@@ -25,17 +27,28 @@ pub fn advance(engine: &mut WideEngine, entry: &Entry) -> Result<(), Fault>
     }
 }
 
-/// An engine that has made the steps of these entries.
-pub(crate) fn played(alloc: Global, seats: u32, entries: &[Entry]) -> Result<WideEngine, Fault>
+// An engine that has made the steps of so many entries of a reader, which then stands behind them.
+fn played(
+    alloc: Global,
+    seats: u32,
+    entries: &mut LogReader<'_>,
+    count: usize,
+) -> Result<WideEngine, Fault>
     requires seats { IsLiveSeats seats }
-    requires lawful { IsHistory (record { seats = seats; entries = entries.now }) }
-    ensures { MatchResult result (λ e. e ≡ record { seats = seats; entries = entries.now }) (λ f. f ≡ faults.NoMemory) }
+    requires inside { count ≤ length entries.old }
+    requires lawful { IsHistory (beginning count (history_of seats entries.old)) }
+    ensures engine { MatchResult result (λ e. e ≡ beginning count (history_of seats entries.old)) (λ f. f ≡ faults.NoMemory) }
+    ensures rest { OnOk result (entries.new ≡ drop count entries.old) }
 {
     let Ok(mut engine) = WideEngine::new(alloc, seats) else {
         return Err(Fault::NoMemory);
     };
-    for entry in entries {
-        advance(&mut engine, entry)?;
+    for _ in 0..count {
+        match entries.next(alloc) {
+            Ok(Some(entry)) => advance(&mut engine, &entry)?,
+            Ok(None) => unreachable!(),
+            Err(_) => return Err(Fault::NoMemory),
+        }
     }
     Ok(engine)
 }
@@ -49,7 +62,7 @@ pub fn played_before(alloc: Global, record: &Record, place: usize) -> Result<Wid
     ensures ok { IfOk result (λ e. e ≡ beginning place (history_in «record».now)) }
     ensures fault { IfErr result (λ f. f ≡ faults.NoMemory) }
 {
-    played(alloc, record.seats, &record.entries.as_slice()[..place])
+    played(alloc, record.seats, &mut record.entries.reader(), place)
 }
 
 /// The engine before the entry at a place and that entry, where the entries before it are a history; None past the last. The
@@ -58,18 +71,22 @@ pub(crate) fn entry_at(
     alloc: Global,
     record: &Record,
     place: u32,
-) -> Result<Option<(WideEngine, &Entry)>, Fault>
+) -> Result<Option<(WideEngine, Entry)>, Fault>
     requires seats { IsLiveSeats «record».now.seats }
     requires before { IsHistory (beginning place (history_in «record».now)) }
     ensures found { IfOk result (λ found. MatchOption found (slice_get «record».now.entries place ≡ None)
-        (λ x. IsEntryAt (history_in «record».now) place x.0 x.1.now)) }
+        (λ x. IsEntryAt (history_in «record».now) place x.0 x.1)) }
     ensures fault { IfErr result (λ f. f ≡ faults.NoMemory) }
 {
-    match record.entries.as_slice().get(place as usize) {
-        Some(entry) => {
-            let engine = played_before(alloc, record, place as usize)?;
-            Ok(Some((engine, entry)))
-        }
-        None => Ok(None),
+    let place = place as usize;
+    if place >= record.entries.len() {
+        return Ok(None);
+    }
+    let mut entries = record.entries.reader();
+    let engine = played(alloc, record.seats, &mut entries, place)?;
+    match entries.next(alloc) {
+        Ok(Some(entry)) => Ok(Some((engine, entry))),
+        Ok(None) => unreachable!(),
+        Err(_) => Err(Fault::NoMemory),
     }
 }

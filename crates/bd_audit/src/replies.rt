@@ -3,14 +3,16 @@
 ghost use Rattle.std.specs.Prelude.{◌≡◌, ◌≤◌, length, IfOk, IfErr, MatchResult};
 ghost use Rattle.bd_engine.specs.Refusals.{IsLiveSeats};
 ghost use Rattle.bd_uapi.specs.declared.fault.Fault.TheVariants as faults;
-ghost use Rattle.bd_space.specs.Histories.{IsHistory, space_after, history_in};
+ghost use Rattle.bd_space.specs.Histories.{IsHistory, space_after};
+ghost use Rattle.bd_spelling.specs.Records.{history_in};
 ghost use Rattle.bd_audit.specs.Replays.{with_entry, beginning};
 ghost use Rattle.bd_audit.specs.Replies as spec;
 ghost use Rattle.bd_audit.specs.CallOf.{IsAnswerOf};
 
 use crate::playing::{advance, entry_at, played_before};
 use bd_engine::{Looks, WideEngine};
-use bd_space::{Entry, Record, Step};
+use bd_space::{Entry, Step};
+use bd_spelling::Record;
 use bd_uapi::Fault;
 use std::alloc::Global;
 
@@ -52,7 +54,7 @@ fn reply_taken_at(alloc: Global, record: &Record, place: u32) -> Result<Option<u
     ensures { MatchResult result (λ r. r ≡ spec.reply_taken_at (history_in «record».now) place) (λ f. f ≡ faults.NoMemory) }
 {
     match entry_at(alloc, record, place)? {
-        Some((mut engine, entry)) => read_reply(&mut engine, entry),
+        Some((mut engine, entry)) => read_reply(&mut engine, &entry),
         None => Ok(None),
     }
 }

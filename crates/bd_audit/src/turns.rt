@@ -4,14 +4,16 @@ ghost use Rattle.std.specs.Prelude.{◌≡◌, ◌≤◌, true, map, take, lengt
 ghost use Rattle.std.specs.{List.{filter_map, list_all}, Option.{option_to_list}};
 ghost use Rattle.bd_engine.specs.Refusals.{IsLiveSeats};
 ghost use Rattle.bd_uapi.specs.declared.fault.Fault.TheVariants as faults;
-ghost use Rattle.bd_space.specs.Histories.{IsHistory, space_after, history_in};
+ghost use Rattle.bd_space.specs.Histories.{IsHistory, space_after};
+ghost use Rattle.bd_spelling.specs.Records.{history_in};
 ghost use Rattle.bd_audit.specs.TurnCalls.{AreTurns};
 ghost use Rattle.bd_audit.specs.TurnSearch as spec;
 
 use crate::playing::advance;
 use bd_buffers::Lent;
 use bd_engine::{Looks, WideEngine};
-use bd_space::{Entry, Identity, ObjectId, Record};
+use bd_space::{Entry, Identity, ObjectId};
+use bd_spelling::Record;
 use bd_uapi::Fault;
 use std::alloc::Global;
 
@@ -144,13 +146,16 @@ pub fn oneway_turns(alloc: Global, record: &Record, object: ObjectId) -> Result<
     requires lawful { IsHistory (history_in «record».now) }
     ensures { MatchResult result (λ v. AreTurns «record».now.entries object v.items) (λ f. f ≡ faults.NoMemory) }
 {
+    let Ok(entries) = record.entries.copied(alloc) else {
+        return Err(Fault::NoMemory);
+    };
     let Ok(mut engine) = WideEngine::new(alloc, record.seats) else {
         return Err(Fault::NoMemory);
     };
     let object = Identity::from(object);
     let turns = Vec::new(alloc);
     let mut list = TurnList { turns, ended: 0 };
-    for entry in record.entries.as_slice() {
+    for entry in &entries {
         let place = engine.len();
         advance(&mut engine, entry)?;
         note(&mut list, &engine, place, object)?;

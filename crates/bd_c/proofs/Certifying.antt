@@ -2,8 +2,9 @@
 use Rattle.std.proofs.Common.{◌≡◌, ◌∙◌, ℕ, List, Bool, false, refl, sym, subst, map, inl}
 use Rattle.std.proofs.lemmas.Bool.{false≢true}
 use Rattle.std.specs.Prelude.{[], ◌∷◌, Option, Some, None, is_some}
-use Rattle.bd_space.specs.declared.record.Record.{Record}
-use Rattle.bd_space.specs.Histories.{history_in, space_after}
+use Rattle.bd_spelling.specs.declared.record.Record.{Record}
+use Rattle.bd_space.specs.Histories.{space_after}
+use Rattle.bd_spelling.specs.Records.{history_in}
 use Rattle.bd_journal.specs.Cut.{HasHeading}
 use Rattle.bd_engine.specs.Looks.{named_by}
 use Rattle.bd_audit.specs.Gifts.{IsChainOf}

@@ -1,7 +1,7 @@
 -- What is said of a journal, or why nothing is.
 use Rattle.std.proofs.{Common.{◌≡◌, ◌∙◌, ◌++◌, [], List, ℕ, None, length, refl, sym, subst}, lemmas.List.{append-nil}}
 use Rattle.std.specs.List.{flat_map}
-use Rattle.bd_space.specs.declared.record.Record.{Record}
+use Rattle.bd_spelling.specs.declared.record.Record.{Record}
 use Rattle.bd_journal.specs.Cut.{HasHeading, IsUnread}
 use Rattle.bd_journal.specs.Spelling.{Tells as IsJournalOf, heading_in}
 use Rattle.bd_spelling.specs.{Spelling.{entry_bytes}, Reading.{entry_from, word_from}, declared.versions.Version.{Version}}

@@ -1,6 +1,6 @@
 -- What is behind a handle: a driver, the history of one that has ended, a seat, or a live engine.
 use Rattle.std.specs.Prelude.{◌≡◌, ◌⊎◌, Option, Some, None, ⊤, IsSomeAnd}
-use Rattle.bd_space.specs.declared.record.Record.{Record}
+use Rattle.bd_spelling.specs.declared.record.Record.{Record}
 use Rattle.bd_c.specs.declared.held.Held.{Held}
 use Rattle.bd_c.specs.declared.held.Held.TheVariants as held
 use Rattle.bd_c.specs.declared.host.Host.{Host}

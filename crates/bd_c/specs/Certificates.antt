@@ -1,7 +1,8 @@
 -- What is certified of the history whose journal some bytes are.
 use Rattle.std.specs.Prelude.{ℕ, ◌≡◌, ◌⊎◌, List, [], Option, Some, None}
-use Rattle.bd_space.specs.declared.record.Record.{Record}
-use Rattle.bd_space.specs.Histories.{IsHistory, history_in, space_after}
+use Rattle.bd_spelling.specs.declared.record.Record.{Record}
+use Rattle.bd_space.specs.Histories.{IsHistory, space_after}
+use Rattle.bd_spelling.specs.Records.{history_in}
 use Rattle.bd_journal.specs.{Spelling.{Tells as IsJournalOf}, Cut.{HasHeading}}
 use Rattle.bd_engine.specs.Looks.{named_by}
 use Rattle.bd_audit.specs.Gifts.{IsChainOf}

@@ -2,7 +2,7 @@
 use Rattle.std.specs.Prelude.{◌≡◌, ℕ, ◌<◌, ◌≤◌, nat_lt, Bool, true, [], ◌∷◌, ◌++◌, None, vec_len}
 use Rattle.std.specs.Arc.{arc_value}
 use Rattle.bd_uapi.specs.Limits.{most_seats, IsSeats}
-use Rattle.bd_space.specs.declared.record.Record.{Record}
+use Rattle.bd_spelling.specs.declared.record.Record.{Record}
 use Rattle.bd_driver.specs.Together.{AllSeats, IsFinal, new_seats}
 use Rattle.bd_c.specs.declared.host.Host.{Host}
 use Rattle.bd_c.specs.declared.seat.OwnedSeat.{OwnedSeat}

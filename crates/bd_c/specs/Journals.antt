@@ -1,7 +1,8 @@
 -- The bytes of a history, and what is said of such bytes.
 use Rattle.std.specs.Prelude.{◌≡◌, ℕ, Bool, true, false, List, length}
-use Rattle.bd_space.specs.declared.record.Record.{Record}
-use Rattle.bd_space.specs.Histories.{IsLawful, history_in}
+use Rattle.bd_spelling.specs.declared.record.Record.{Record}
+use Rattle.bd_space.specs.Histories.{IsLawful}
+use Rattle.bd_spelling.specs.Records.{history_in}
 use Rattle.bd_journal.specs.Cut.{HasHeading}
 use Rattle.bd_journal.specs.Spelling.{IsJournal, journal_bytes, Tells as IsJournalOf}
 use Rattle.bd_audit.specs.Replays.{IsLawfulUpTo}

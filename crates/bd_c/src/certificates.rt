@@ -1,7 +1,8 @@
 //! Certificates: what is so of the history whose journal some bytes are.
 ghost use Rattle.std.specs.Prelude.{◌≡◌, ℕ, List, Option, map, IfOk, IfErr};
 ghost use Rattle.bd_engine.specs.Refusals.{IsLiveSeats};
-ghost use Rattle.bd_space.specs.{Histories.{history_in}, declared.record.Record.{Record}};
+ghost use Rattle.bd_spelling.specs.declared.record.Record.{Record};
+ghost use Rattle.bd_spelling.specs.Records.{history_in};
 ghost use Rattle.bd_journal.specs.Spelling.{Tells as IsJournalOf};
 ghost use Rattle.bd_audit.specs.{CallOf.{IsAnswerOf}, TurnCalls.{AreTurns}};
 ghost use Rattle.bd_audit.specs.declared.turns.Turn as declared;
@@ -12,7 +13,8 @@ use crate::parts::fill;
 use crate::status::Status;
 use bd_audit::{AuditFault, Turn, call_of_reply, gift_chain, oneway_turns, replay};
 use bd_journal::{ReadError, read_journal};
-use bd_space::{ObjectId, Record};
+use bd_space::ObjectId;
+use bd_spelling::Record;
 use std::alloc::{AllocError, Global};
 
 /// A one-way call on an object. The number 4294967295 is no place.

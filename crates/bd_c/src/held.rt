@@ -2,7 +2,7 @@
 use crate::host::Host;
 use crate::live::OwnedLive;
 use crate::seat::OwnedSeat;
-use bd_space::Record;
+use bd_spelling::Record;
 
 /// What is behind a handle: a handle begins with nothing, and goes from one of these to another by the calls made with it.
 #[derive(Drop)]

@@ -7,7 +7,7 @@ use crate::keyed::KeyedDriver;
 use crate::seat::OwnedSeat;
 use crate::status::Status;
 use bd_driver::Driver;
-use bd_space::Record;
+use bd_spelling::Record;
 use std::alloc::Global;
 use std::sync::Arc;
 

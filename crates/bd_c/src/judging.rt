@@ -1,6 +1,6 @@
 //! Journals: the bytes of a history, and what they are worth.
 
-ghost use Rattle.bd_space.specs.declared.record.Record.{Record};
+ghost use Rattle.bd_spelling.specs.declared.record.Record.{Record};
 ghost use Rattle.bd_audit.specs.Journals.{IsJudgment};
 ghost use Rattle.bd_c.specs.Journals.{Holds, Journals, Judges};
 
@@ -8,7 +8,7 @@ use crate::parts::tell_written;
 use crate::status::Status;
 use bd_audit::{Judgment, Unwatched, judge_journal};
 use bd_journal::{ReadError, write_journal};
-use bd_space::Record;
+use bd_spelling::Record;
 use std::alloc::Global;
 
 /// What C is told of a journal by its judgment.

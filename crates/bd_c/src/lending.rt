@@ -1,6 +1,6 @@
 //! What is behind a handle, lent to a call; or that it isn't what the call is for.
 ghost use Rattle.std.specs.{Prelude.{◌≡◌, Some, None, MatchBool, MatchOption}, Borrow.{sem}};
-ghost use Rattle.bd_space.specs.contracts.record.Record.{the_row as record_row};
+ghost use Rattle.bd_spelling.specs.contracts.record.Record.{the_row as record_row};
 ghost use Rattle.bd_c.specs.declared.held.Held.TheVariants.{Driver, History, Live, Seat};
 ghost use Rattle.bd_c.specs.{contracts.held.Held.{the_row as held_row}, contracts.host.Host.{the_row as host_row}};
 ghost use Rattle.bd_c.specs.contracts.live.OwnedLive.{the_row as live_row};
@@ -12,7 +12,7 @@ use crate::held::Held;
 use crate::host::Host;
 use crate::live::OwnedLive;
 use crate::seat::OwnedSeat;
-use bd_space::Record;
+use bd_spelling::Record;
 
 impl Handle {
     /// What is behind it, whatever that is.

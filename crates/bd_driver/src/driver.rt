@@ -7,7 +7,7 @@ use crate::seat::Seat;
 use crate::slot::Slot;
 use crate::view::View;
 use atomic_table::{Table, TableRule};
-use bd_space::{Entries, Record};
+use bd_spelling::{Entries, Record};
 use std::alloc::Global;
 use std::collections::LinkedList;
 use std::marker::Model;
@@ -55,7 +55,8 @@ impl Model for Driver {
 }
 
 impl Driver {
-    ghost use Rattle.bd_space.specs.Histories.{IsHistory, history_in};
+    ghost use Rattle.bd_space.specs.Histories.{IsHistory};
+    ghost use Rattle.bd_spelling.specs.Records.{history_in};
     ghost use Rattle.bd_driver.specs.Together.{AllSeats, IsFinal};
 
     /// The history, where all seats are there, in any order: it begins with what each seat has seen, and a seat's
@@ -78,7 +79,7 @@ impl Driver {
             Slot::Home(engine) => engine.open().into_record(),
             _ => Record {
                 seats: 0,
-                entries: Entries::new(Vec::new(alloc)),
+                entries: Entries::none(alloc),
             },
         }
     }

@@ -1,7 +1,8 @@
 ghost use Rattle.std.specs.Prelude.{◌≡◌, IfOk, IfSome, All};
 
 use crate::{Driver, Outcome, Page, Seat, Served, Why};
-use bd_space::{Answer, Record, Request};
+use bd_space::{Answer, Request};
+use bd_spelling::Record;
 use bd_uapi::Fault;
 use std::alloc::{AllocError, Global};
 use std::test::Fail;
@@ -99,13 +100,9 @@ fn is_read_back(outcome: Outcome, reason: Why) -> bool {
     }
 }
 
-fn entries_of(record: &Record, seat: u32) -> usize {
-    record
-        .entries
-        .as_slice()
-        .iter()
-        .filter(|e| e.seat == seat)
-        .count()
+fn entries_of(alloc: Global, record: &Record, seat: u32) -> Result<usize, AllocError> {
+    let entries = record.entries.copied(alloc)?;
+    Ok(entries.iter().filter(|entry| entry.seat == seat).count())
 }
 
 fn seated(alloc: Global, seats: u32) -> Result<(Driver, Vec<Seat>), Fail>
@@ -209,6 +206,8 @@ fn stopped_between_pick_and_answer(rt: HostRuntime) -> Result<(), Fail> {
     assert!(rt; is_so && is_opened(collect(&driver, &mut poster)));
     let seats = back(&driver, seats, server)?;
     let record = finished(driver, seats, third, poster)?;
-    assert!(rt; entries_of(&record, 0) == 1 && entries_of(&record, 2) == 0);
+    let first = entries_of(rt.alloc(), &record, 0)?;
+    let last = entries_of(rt.alloc(), &record, 2)?;
+    assert!(rt; first == 1 && last == 0);
     Ok(())
 }

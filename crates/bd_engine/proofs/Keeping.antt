@@ -1,10 +1,8 @@
 -- What a live engine follows, from step to step.
-use Rattle.std.proofs.Common.{◌≡◌, ℕ, suc, ◌+◌, ◌<◌, ◌≤◌, Bool, true, false, List, [], ◌∷◌, ◌++◌, length, take, set, get_or, refl, ap, sym, subst, ◌∙◌, arith, length-append}
+use Rattle.std.proofs.Common.{◌≡◌, ℕ, suc, ◌+◌, ◌<◌, ◌≤◌, Bool, true, false, List, [], ◌∷◌, ◌++◌, length, refl, ap, sym, subst, ◌∙◌, arith, length-append}
 use Rattle.std.specs.Prelude.{nat_lt, nat_le, ◌&&◌, ◌||◌, Some}
 use Rattle.std.proofs.Math.Bool.{or-true}
-use Rattle.std.proofs.lemmas.List.{get_or_push}
 use Rattle.std.proofs.lemmas.List.Folds.{list_all-append}
-use Rattle.std.proofs.Math.Seq.{set-append_seam, take-append_seam}
 use Rattle.std.proofs.lemmas.Bool.{lt-ltb, le-leb, leb-true, leb-false}
 use Rattle.bd_space.specs.declared.step.Step.{Step}
 use Rattle.bd_space.specs.declared.step.StepAnswer.{StepAnswer}
@@ -124,7 +122,7 @@ limit_at_end h seat x e = either (nat_le 18446744073709551615 (length h.entries)
 
 -- ---- an engine, which holds the entries
 
-pub more_is : (h : History) (seat : ℕ) (x : Step) (e : Entry) (n : ℕ) (es : List Entry) → e.seat ≡ seat → e.step ≡ x → n ≡ h.seats → es ≡ h.entries ++ e ∷ []
+more_is : (h : History) (seat : ℕ) (x : Step) (e : Entry) (n : ℕ) (es : List Entry) → e.seat ≡ seat → e.step ≡ x → n ≡ h.seats → es ≡ h.entries ++ e ∷ []
     → history_of n es ≡ extended h seat x e.answer
 more_is h seat x e n es seat_is step_is seats grown =
     let entry : e ≡ record { seat = seat; step = x; answer = e.answer } =
@@ -135,14 +133,3 @@ more_is h seat x e n es seat_is step_is seats grown =
 pub follows_entered : (h : History) (new : Live) (seat : ℕ) (x : Step) (e : Entry) (n : ℕ) (es : List Entry) → e.seat ≡ seat → e.step ≡ x
     → Follows new (extended h seat x e.answer) → n ≡ h.seats → es ≡ h.entries ++ e ∷ [] → Follows new (history_of n es)
 follows_entered h new seat x e n es seat_is step_is follows seats grown = subst (Follows new) (sym (more_is h seat x e n es seat_is step_is seats grown)) follows
-
--- an entry that was put last, before its step is made
-module _ (es pushed : List Entry) (blank : Entry) (at : ℕ) (grown : pushed ≡ es ++ blank ∷ []) (last : at ≡ length es) where
-  pub entry_there : (d : Entry) → get_or pushed at d ≡ blank
-  entry_there d = ap (λ l. get_or l at d) grown ∙ get_or_push es blank d at (sym last)
-
-  pub entry_filled : (e : Entry) → set pushed at e ≡ es ++ e ∷ []
-  entry_filled e = ap (λ l. set l at e) grown ∙ ap (λ n. set (es ++ blank ∷ []) n e) last ∙ set-append_seam es blank [] e
-
-  pub entry_taken_off : (e : Entry) → take at (set pushed at e) ≡ es
-  entry_taken_off e = ap (take at) (entry_filled e) ∙ ap (λ n. take n (es ++ e ∷ [])) last ∙ take-append_seam es (e ∷ [])

@@ -2,7 +2,6 @@ pub mod Noting
 pub mod Ending
 pub mod Asked
 pub mod Keeping
-pub mod Kept
 pub mod Commands
 pub mod Courses
 pub mod Runs

@@ -7,3 +7,4 @@ pub mod Looks
 pub mod Begun
 pub use Rattle.bd_step.specs.Ending
 pub use Rattle.bd_step.specs.declared.step_error.StepError
+pub mod Entering

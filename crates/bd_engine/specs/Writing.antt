@@ -2,7 +2,7 @@
 use Rattle.std.specs.Prelude.{ℕ, ◌+◌, ◌≡◌, ◌≤◌, ◌<◌, ◌==◌, List, [], ◌∷◌, ◌++◌, length, drop, Option, Some, None, Result, Ok, Err, if◌then◌else◌}
 use Rattle.bd_ways.specs.Words.{Command, Note, Fault, Step, StepAnswer, Entry, Answer, Request, Space}
 use Rattle.bd_uapi.specs.declared.fault.Fault.TheVariants as fault
-use Rattle.bd_codec.specs.Reading.{command_at}
+use Rattle.bd_codec.specs.{Reading.{command_at}, Spelling.{command_bytes, IsCommand}}
 use Rattle.bd_space.specs.declared.step.StepAnswer.TheVariants as gave
 use Rattle.bd_space.specs.declared.step.Stop.TheVariants as stop
 use Rattle.bd_space.specs.declared.step.Answer.TheVariants.{Wrote, Refused}
@@ -136,6 +136,10 @@ pub record IsNext (stream : List ℕ) (at : ℕ) (c : Command) (size : ℕ) : Ty
   pub read : command_at (drop at stream) ≡ Ok (c, size)
   pub some : 0 < size
   pub fits : at + size ≤ length stream
+
+-- the bytes spell the command, each number of which has its width
+abbrev pub IsSpelled : Command → List ℕ → Type 0
+IsSpelled c bytes = (bytes ≡ command_bytes c) × IsCommand c
 
 -- the write goes on from a place, or has ended
 abbrev pub IsCourse : History → History → ℕ → List ℕ → List ℕ → ℕ → Course → Type 0

@@ -12,7 +12,8 @@ ghost use Rattle.bd_step.specs.declared.step_error.StepError.TheVariants.{NoMemo
 use crate::run::Ran;
 use crate::tables::HasTables;
 use crate::wide::WideEngine;
-use bd_space::{Record, Request, Step, StepAnswer};
+use bd_space::{Request, Step, StepAnswer};
+use bd_spelling::Record;
 use bd_step::{StepError, Tables};
 use bd_uapi::{Fault, MOST_SEATS};
 use std::alloc::{AllocError, Global};

@@ -1,9 +1,9 @@
 //! What holds the tables of an object space from step to step, with its history or without one, and the run of a request.
 #![tactic(auto)]
 
-mod again;
 mod ended;
 mod engine;
+mod entering;
 mod live;
 mod looks;
 mod narrow;

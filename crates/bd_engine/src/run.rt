@@ -1,17 +1,17 @@
 //! The run of a request: one step, or for a write one for each of its commands.
 
-ghost use Rattle.std.specs.Prelude.{◌≡◌, ◌<◌, true, Some, IfOk, IfErr, OnErr, MatchOption};
+ghost use Rattle.std.specs.Prelude.{◌≡◌, ◌<◌, [], true, Some, IfOk, IfErr, IfSome, OnErr, MatchOption};
 ghost use Rattle.bd_ways.specs.Words as words;
 ghost use Rattle.bd_space.specs.{declared.step.Request.{Request}, declared.step.Request.TheVariants.{Write}};
 ghost use Rattle.bd_space.specs.{Space.{Space}, Histories.{HasPlace, is_at_limit}};
 ghost use Rattle.bd_space.specs.Runs as runs;
 ghost use Rattle.bd_space.specs.Runs.{HasRun, HasEntry, IsAtLimit, answered};
+ghost use Rattle.bd_spelling.specs.Spelling.{SpellsCommand};
 ghost use Rattle.bd_step.specs.{Plain.{IsBrief, IsGot}, declared.answer.Brief.TheVariants.{Got}};
 ghost use Rattle.bd_engine.specs.{Refusals.{FullOnly, MemoryOnly}, Writing.{IsTurnedAway, IsWrite, IsOneStep}};
 
-use crate::again::Again;
 use crate::wide::WideEngine;
-use bd_space::{Answer, Request, Step, StepAnswer};
+use bd_space::{Answer, Entry, Request, Step, StepAnswer};
 use bd_step::{Brief, Plain, StepError};
 use bd_uapi::Fault;
 
@@ -66,7 +66,9 @@ fn answered(brief: Brief, again: StepAnswer) -> Answer
 // room on the stack, and be cleared there in each run.
 #[tactic(auto, unfolding(bd_space::specs::Runs::run))]
 fn step_of(request: &Request) -> Option<Step>
-    ensures { MatchOption result (IsWrite request.now) (IsOneStep request.now) }
+    ensures step { MatchOption result (IsWrite request.now) (IsOneStep request.now) }
+    // It is no command.
+    ensures bare { IfSome result (λ x. SpellsCommand x []) }
 {
     match request {
         Request::Open { pid, euid, window } => {
@@ -87,7 +89,8 @@ impl WideEngine {
     // A request that is one step.
     #[inline(always)]
     fn single(&mut self, seat: u32, step: Step) -> Result<Ran, StepError>
-        requires { seat < self.old.seats }
+        requires seat { seat < self.old.seats }
+        requires bare { SpellsCommand step [] }
         ensures ok { (request : Request) → ((s : Space) → runs.run s seat request ≡ runs.single s seat step)
             → IfOk result (λ r. HasRun self.old self.new seat request r.answer r.from r.to) }
         ensures err { OnErr result (self.new ≡ self.old) }
@@ -95,11 +98,12 @@ impl WideEngine {
         ensures memory { IfErr result (λ why. MemoryOnly why (HasPlace self.old)) }
     {
         let from = self.len();
-        let mut again = Again::new();
-        match self.step_in_place(seat, step, &mut again) {
+        let answer = StepAnswer::Exited;
+        let mut entry = Entry { seat, step, answer };
+        match self.step_in_place(&mut entry, &[]) {
             Err(why) => Err(why),
             Ok(brief) => Ok(Ran {
-                answer: answered(brief, again.answer),
+                answer: answered(brief, entry.answer),
                 from,
                 to: self.len(),
             }),

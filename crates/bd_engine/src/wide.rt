@@ -5,14 +5,16 @@ ghost use Rattle.bd_uapi.specs.Limits.{most_seats};
 ghost use Rattle.bd_space.specs.Histories as histories;
 ghost use Rattle.bd_space.specs.Histories.{most_steps};
 ghost use Rattle.bd_space.specs.Steps as steps;
-ghost use Rattle.bd_step.specs.{Plain.{IsBrief}, declared.answer.Brief.TheVariants.{Got}};
+ghost use Rattle.bd_spelling.specs.Spelling.{SpellsCommand};
+ghost use Rattle.bd_step.specs.Plain.{IsBrief};
 ghost use Rattle.bd_engine.specs.Refusals.{FullOnly, MemoryOnly, IsLiveSeats, IsLiveSeatFault};
 ghost use Rattle.bd_step.specs.declared.step_error.StepError.TheVariants.{NoMemory};
 
-use crate::again::Again;
+use crate::entering::Entering;
 use crate::live::Live;
 use crate::tables::HasTables;
-use bd_space::{Entries, Entry, Record, Step, StepAnswer};
+use bd_space::{Entry, Step, StepAnswer};
+use bd_spelling::{Entries, Log, Record, command_of};
 use bd_step::{Brief, StepError, Tables};
 use bd_uapi::{Fault, Note};
 use std::alloc::{AllocError, Global};
@@ -25,7 +27,7 @@ const MOST_STEPS: usize = 4294967295;
 /// The history of the steps of 1 to 65536 seats, and what it has come to. An `Engine` is one of few seats, which
 /// keeps besides which of them are ready.
 pub struct WideEngine {
-    entries: Vec<Entry>,
+    entries: Entering,
     live: Live,
     // Room for a write's notes, which mostly has none: it is kept from write to write, so that each asks for no memory.
     notes: Vec<(u32, Note)>,
@@ -37,9 +39,9 @@ impl Model for WideEngine {
 
     ghost Value = { History };
 
-    ghost view = { λ e. history_of e.live.seats e.entries.items };
+    ghost view = { λ e. history_of e.live.seats e.entries.log.entries };
 
-    ghost invariant = { λ e. FollowsShort e.live (history_of e.live.seats e.entries.items) };
+    ghost invariant = { λ e. FollowsShort e.live (history_of e.live.seats e.entries.log.entries) };
 }
 
 // Written out: one that is derived would be proved again, with that of each table, in every crate that holds an engine.
@@ -72,7 +74,10 @@ impl WideEngine {
     {
         match Live::new(alloc, seats) {
             Ok(live) => Ok(WideEngine {
-                entries: Vec::new(alloc),
+                entries: Entering {
+                    log: Log::new(alloc),
+                    step: 0,
+                },
                 live,
                 notes: Vec::new(alloc),
             }),
@@ -89,7 +94,7 @@ impl WideEngine {
 
     // The allocator that the engine's memory comes from.
     pub(crate) fn alloc(&self) -> Global {
-        *self.entries.allocator()
+        *self.notes.allocator()
     }
 
     /// How many seats there are, 1 to 65536.
@@ -105,16 +110,16 @@ impl WideEngine {
     pub fn len(&self) -> u32
         ensures { result ≡ length self.now.entries }
     {
-        self.entries.len() as u32
+        self.entries.log.len() as u32
     }
 
-    /// Makes room for the entries of so many steps more, and changes nothing else. That these entries then ask for no memory
-    /// no clause says, since room is no part of an engine's value, its history. Errors: memory was refused.
+    /// Makes room for the entries of so many steps more, each of 128 bytes, and changes nothing else. That these entries then ask for
+    /// no memory no clause says, since room is no part of an engine's value, its history. Errors: memory was refused.
     pub fn reserve(&mut self, steps: usize) -> Result<(), StepError>
         ensures stands { self.new ≡ self.old }
         ensures memory { IfErr result (λ why. why ≡ NoMemory) }
     {
-        match self.entries.reserve(steps) {
+        match self.entries.log.reserve(steps.saturating_mul(128)) {
             Ok(()) => Ok(()),
             Err(_) => Err(StepError::NoMemory),
         }
@@ -124,7 +129,7 @@ impl WideEngine {
     pub(crate) fn is_full(&self) -> bool
         ensures { result ≡ nat_le most_steps (length self.now.entries) }
     {
-        self.entries.len() >= MOST_STEPS
+        self.entries.log.len() >= MOST_STEPS
     }
 
     /// The ready seats, bit i for seat i: those that have something to read. Of more than 31 seats ask each.
@@ -167,7 +172,7 @@ impl WideEngine {
         } = self;
         Record {
             seats: live.seats,
-            entries: Entries::new(entries),
+            entries: Entries::from(entries.log),
         }
     }
 
@@ -188,49 +193,45 @@ impl WideEngine {
         // It has as many seats as before.
         ensures seats { self.new.seats ≡ self.old.seats }
     {
-        let mut again = Again::new();
-        match self.step_in_place(seat, step, &mut again) {
-            Ok(brief) => Ok(brief.answer(again.answer)),
+        let spelling = command_of(&step);
+        let answer = StepAnswer::Exited;
+        let mut entry = Entry { seat, step, answer };
+        match self.step_in_place(&mut entry, spelling.as_slice()) {
+            Ok(_) => Ok(entry.answer),
             Err(why) => Err(why),
         }
     }
 
-    // Makes one step as `step` does, and answers in brief; what was read is copied to `again`. The entry stands in the history before
-    // the step is made, so that neither its step nor its answer is moved any more; of a step that is refused it is taken off again.
+    // Makes the step of an entry, whose answer is written into it, and has that in brief. The step's command, if it is one, is spelled by
+    // these bytes. Room for the entry is there before the tables change, so what was made is entered without memory.
     #[inline(always)]
     pub(crate) fn step_in_place(
         &mut self,
-        seat: u32,
-        step: Step,
-        again: &mut Again,
+        entry: &mut Entry,
+        command: &[u8],
     ) -> Result<Brief, StepError>
-        requires { seat < self.old.seats }
-        ensures brief { IfOk result (λ x. IsBrief x (steps.step (histories.space_after self.old) seat step).answer) }
-        ensures copied { result ≡ Ok Got → again.new.answer ≡ (steps.step (histories.space_after self.old) seat step).answer }
-        ensures history { OnOk result (self.new ≡ histories.extended self.old seat step
-            (steps.step (histories.space_after self.old) seat step).answer) }
+        requires seat { entry.old.seat < self.old.seats }
+        requires command { SpellsCommand entry.old.step command.now }
+        ensures brief { IfOk result (λ x. IsBrief x entry.new.answer) }
+        ensures answer { OnOk result (entry.new.answer ≡ (steps.step (histories.space_after self.old) entry.old.seat entry.old.step).answer) }
+        ensures history { OnOk result (self.new ≡ histories.extended self.old entry.old.seat entry.old.step entry.new.answer) }
         ensures err { OnErr result (self.new ≡ self.old) }
-        ensures full { IfErr result (λ why. FullOnly why (histories.is_at_limit self.old seat (Some step) ≡ true)) }
+        ensures full { IfErr result (λ why. FullOnly why (histories.is_at_limit self.old entry.old.seat (Some entry.old.step) ≡ true)) }
         ensures memory { IfErr result (λ why. MemoryOnly why (histories.HasPlace self.old)) }
     {
         if self.is_full() {
             return Err(StepError::HistoryFull);
         }
-        if self.entries.reserve(1).is_err() {
+        if self.entries.begin(&entry.step, command).is_err() {
             return Err(StepError::NoMemory);
         }
-        let at = self.entries.len();
-        let answer = StepAnswer::Exited;
-        self.entries.push_reserved(Entry { seat, step, answer });
-        match self.live.make(&mut self.entries[at], again) {
+        match self.live.make(entry, &mut self.entries) {
             Ok(brief) => {
                 self.live.refresh_ready();
+                self.entries.log.push(entry, command);
                 Ok(brief)
             }
-            Err(why) => {
-                self.entries.truncate(at);
-                Err(why)
-            }
+            Err(why) => Err(why),
         }
     }
 }

@@ -10,14 +10,13 @@ ghost use Rattle.bd_space.specs.Steps as steps;
 ghost use Rattle.bd_space.specs.{Runs.{HasRun}, Writes.{step_of_command}};
 ghost use Rattle.bd_engine.specs.Refusals.{FullOnly, MemoryOnly};
 ghost use Rattle.bd_step.specs.Plain.{IsBrief};
-ghost use Rattle.bd_engine.specs.Writing.{HasCome, IsSame, IsAt, IsAfter, IsCourse, IsCutAt, IsTurnedAway, IsNext, refused};
+ghost use Rattle.bd_engine.specs.Writing.{HasCome, IsSame, IsAt, IsAfter, IsCourse, IsCutAt, IsTurnedAway, IsNext, IsSpelled, refused};
 ghost use Rattle.bd_engine.specs.Writing.{Ends, course_of, course_or, ended};
 
-use crate::again::Again;
 use crate::parcel::parcel_for;
 use crate::wide::WideEngine;
 use bd_codec::read_command;
-use bd_space::{Answer, Notes, Step, Stop};
+use bd_space::{Answer, Entry, Notes, Step, StepAnswer, Stop};
 use bd_step::{Brief, Plain, StepError};
 use bd_uapi::{Command, Fault, Note};
 use std::alloc::AllocError;
@@ -58,16 +57,18 @@ impl Progress {
         }
     }
 
-    // Reads the next command, and its size.
-    fn next(&self, stream: &[u8]) -> Result<(Command, u32), Fault>
+    // Reads the next command, and has the bytes that spell it.
+    fn next<'a>(&self, stream: &'a [u8]) -> Result<(Command, &'a [u8]), Fault>
         requires more { self.now.consumed < length stream.now }
         requires short { length stream.now ≤ 4096 }
-        ensures read { IfOk result (λ r. IsNext stream.now self.now.consumed r.0 r.1) }
+        ensures read { IfOk result (λ r. IsNext stream.now self.now.consumed r.0 (length r.1.now)) }
+        ensures spelled { IfOk result (λ r. IsSpelled r.0 r.1.now) }
         ensures fault { IfErr result (λ x. command_at (drop self.now.consumed stream.now) ≡ Err x) }
     {
-        match read_command(&stream[self.consumed as usize..]) {
+        let rest = &stream[self.consumed as usize..];
+        match read_command(rest) {
             Err(fault) => Err(fault),
-            Ok((command, size)) => Ok((command, size as u32)),
+            Ok((command, size)) => Ok((command, &rest[..size])),
         }
     }
 
@@ -163,15 +164,17 @@ impl Progress {
 }
 
 impl WideEngine {
-    // Makes the step of a command. There is room for its note by then, so that no step that was made is lost.
+    // Makes the step of a command, which these bytes spell. There is room for its note by then, so that no step that was made is lost.
     fn attempt(
         &mut self,
         seat: u32,
         area: &[u8],
         command: Command,
+        spelled: &[u8],
         progress: &mut Progress,
     ) -> Result<Brief, StepError>
-        requires { seat < self.old.seats }
+        requires seat { seat < self.old.seats }
+        requires spelled { IsSpelled command spelled.now }
         ensures same { IsSame progress.old progress.new }
         ensures room { OnOk result (vec_len progress.new.notes < vec_capacity progress.new.notes) }
         ensures answer { IfOk result
@@ -192,33 +195,35 @@ impl WideEngine {
         let Ok(parcel) = parcel_for(self.alloc(), area, &command) else {
             return Err(StepError::NoMemory);
         };
-        // A command reads nothing, so nothing is written here.
-        let mut again = Again::new();
-        self.step_in_place(seat, Step::Command { command, parcel }, &mut again)
+        let step = Step::Command { command, parcel };
+        let answer = StepAnswer::Exited;
+        let mut entry = Entry { seat, step, answer };
+        self.step_in_place(&mut entry, spelled)
     }
 
-    // Runs the next command of a write, of this size.
+    // Runs the next command of a write, which these bytes spell.
     #[inline(always)]
     fn run_command(
         &mut self,
         seat: u32,
         area: &[u8],
         command: Command,
-        size: u32,
+        spelled: &[u8],
         progress: &mut Progress,
     ) -> Result<Going, StepError>
         requires seat { seat < self.old.seats }
-        requires fits { progress.old.consumed + size ≤ 4096 }
+        requires spelled { IsSpelled command spelled.now }
+        requires fits { progress.old.consumed + length spelled.now ≤ 4096 }
         requires few { progress.old.count ≤ progress.old.consumed }
         ensures { (old : History) (stream : List ℕ) → HasCome old self.old seat stream area.now progress.old
-            → IsNext stream progress.old.consumed command size
+            → IsNext stream progress.old.consumed command (length spelled.now)
             → MatchResult result
-            (λ going. IsCourse old self.new seat stream area.now (progress.old.consumed + size) (course_of progress.new going))
+            (λ going. IsCourse old self.new seat stream area.now (progress.old.consumed + length spelled.now) (course_of progress.new going))
             (λ why. (self.new ≡ old) × IsTurnedAway old seat (Write stream area.now) why) }
     {
-        match self.attempt(seat, area, command, progress) {
+        match self.attempt(seat, area, command, spelled, progress) {
             Err(why) => progress.cut_short(why),
-            Ok(answer) => Ok(progress.after(answer, size)),
+            Ok(answer) => Ok(progress.after(answer, spelled.len() as u32)),
         }
     }
 
@@ -242,8 +247,8 @@ impl WideEngine {
         'commands: while (progress.consumed as usize) < stream.len() {
             match progress.next(stream) {
                 Err(fault) => return Ok(Going::Stops(Stop::Fault(fault))),
-                Ok((command, size)) => {
-                    match self.run_command(seat, area, command, size, progress) {
+                Ok((command, spelled)) => {
+                    match self.run_command(seat, area, command, spelled, progress) {
                         Err(why) => return Err(why),
                         Ok(Going::On) => {}
                         Ok(Going::Stops(stop)) => return Ok(Going::Stops(stop)),

@@ -6,7 +6,7 @@ use Rattle.std.proofs.lemmas.List.{append-nil, length-append}
 use Rattle.std.proofs.lemmas.List.Concat.{flat_map-cons}
 use Rattle.bd_uapi.specs.Bytes.{IsBytes, word}
 use Rattle.bd_space.specs.declared.step.Entry.{Entry}
-use Rattle.bd_space.specs.declared.record.Record.{Record}
+use Rattle.bd_spelling.specs.declared.record.Record.{Record}
 use Rattle.bd_spelling.specs.declared.fault.ReadError.{ReadError}
 use Rattle.bd_spelling.specs.declared.versions.Version.{Version}
 use Rattle.bd_spelling.specs.Spelling.{block, step_bytes, answer_bytes, entry_bytes, IsEntryIn}

@@ -1,16 +1,14 @@
 -- The version that a record of so many seats is written in.
-use Rattle.std.proofs.Common.{◌≡◌, ℕ, ◌<◌, length, refl, Bool, true, false, cond, leb, List, Result, Ok, Err, sym, subst, arith}
+use Rattle.std.proofs.Common.{◌≡◌, ℕ, ◌≤◌, length, refl, Bool, true, false, cond, leb, sym, subst, arith}
 use Rattle.std.specs.List.{AllByRecursion}
 use Rattle.std.proofs.lemmas.Bool.{leb-true, leb-false}
 use Rattle.bd_uapi.specs.Limits.{most_seats}
-use Rattle.bd_space.specs.declared.step.Entry.{Entry}
-use Rattle.bd_space.specs.declared.record.Record.{Record}
-use Rattle.bd_spelling.specs.declared.fault.WriteError.{WriteError}
-use Rattle.bd_spelling.specs.declared.fault.WriteError.TheVariants.{Unspellable, Refused}
+use Rattle.bd_spelling.specs.declared.record.Record.{Record}
 use Rattle.bd_spelling.specs.declared.versions.Version.TheVariants.{Two, Three}
-use Rattle.bd_spelling.specs.Spelling.{has_spam, IsEntryWith, IsEntry}
-use Rattle.bd_journal.specs.Spelling.{newest, count_limit, IsRecordSeats, IsSeatsIn, IsJournal}
-use Rattle.bd_spelling.specs.Writing.{Spells}
+use Rattle.bd_spelling.specs.Spelling.{has_spam, IsEntryWith}
+use Rattle.bd_spelling.specs.Logged.{AreSeatsOf}
+use Rattle.bd_spelling.proofs.Logs.{wider}
+use Rattle.bd_journal.specs.Spelling.{newest, IsRecordSeats, IsSeatsIn, IsJournal}
 use Rattle.bd_journal.specs.Writing.{IsHeading}
 
 seats_in_newest : (n : ℕ) → IsRecordSeats n → IsSeatsIn (newest n) n
@@ -28,17 +26,15 @@ spam_in_newest n = by (leb n most_seats)
     by true = refl
     by false = refl
 
--- a heading that there is room for and entries that have a spelling are a journal's, and no others
-pub spells_both : {X : Type 0} (result : Result X WriteError) (r : Record) (es : List Entry) → es ≡ r.entries → IsHeading r.seats (length es)
-    → Spells result (AllByRecursion (IsEntry r.seats) es) → Spells result (IsJournal r)
-spells_both (Ok x) r es is heading entries =
-    let spelled = subst (λ (all : List Entry). AllByRecursion (IsEntry r.seats) all) is entries in
+-- what a heading has room for, and no more seats than it says, is a journal's
+pub is_journal : (r : Record) (n : ℕ) → IsHeading r.seats (length r.entries) → AreSeatsOf n r.entries → n ≤ r.seats → IsJournal r
+is_journal r n heading told enough =
     record {
       seats = seats_in_newest r.seats heading.0;
-      count = subst (λ (all : List Entry). length all < count_limit (newest r.seats)) is heading.1;
-      entries = subst (λ (spam : Bool). AllByRecursion (IsEntryWith spam r.seats) r.entries) (sym (spam_in_newest r.seats)) spelled;
+      count = heading.1;
+      entries = subst (λ (spam : Bool). AllByRecursion (IsEntryWith spam r.seats) r.entries) (sym (spam_in_newest r.seats)) (wider n r.seats r.entries enough told.enough);
     }
-spells_both (Err Unspellable) r es is heading entries = λ journal.
-    let spelled = subst (λ (spam : Bool). AllByRecursion (IsEntryWith spam r.seats) r.entries) (spam_in_newest r.seats) journal.entries in
-    entries (subst (λ (all : List Entry). AllByRecursion (IsEntry r.seats) all) (sym is) spelled)
-spells_both (Err Refused) r es is heading entries = tt
+
+-- a journal has no fewer seats than its entries take
+pub seats_enough : (r : Record) (n : ℕ) → AreSeatsOf n r.entries → IsJournal r → n ≤ r.seats
+seats_enough r n told journal = told.least r.seats (subst (λ (spam : Bool). AllByRecursion (IsEntryWith spam r.seats) r.entries) (spam_in_newest r.seats) journal.entries)

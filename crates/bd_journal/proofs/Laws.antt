@@ -8,7 +8,7 @@ use Rattle.std.proofs.lemmas.Bool.{eqb-true, leb-true, le-leb}
 use Rattle.std.proofs.lemmas.List.{append-nil, nil_from_length, take-append-drop}
 use Rattle.bd_uapi.specs.Bytes.{IsBytes, word}
 use Rattle.bd_uapi.proofs.Pieces.{IsBytes_drop}
-use Rattle.bd_space.specs.declared.record.Record.{Record}
+use Rattle.bd_spelling.specs.declared.record.Record.{Record}
 use Rattle.bd_spelling.specs.declared.versions.Version.{Version}
 use Rattle.bd_spelling.specs.declared.versions.Version.TheVariants.{One, Two, Three}
 use Rattle.bd_spelling.specs.declared.fault.ReadError.{ReadError}

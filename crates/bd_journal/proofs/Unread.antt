@@ -3,7 +3,7 @@ use Rattle.std.proofs.Common.{◌≡◌, List, ℕ, Option, Some, None, Result, 
 use Rattle.std.specs.Prelude.{IfErr}
 use Rattle.std.proofs.lemmas.Option.{none-some}
 use Rattle.bd_uapi.specs.Bytes.{IsBytes}
-use Rattle.bd_space.specs.declared.record.Record.{Record}
+use Rattle.bd_spelling.specs.declared.record.Record.{Record}
 use Rattle.bd_spelling.specs.declared.fault.ReadError.{ReadError}
 use Rattle.bd_spelling.specs.declared.fault.ReadError.TheVariants as errors
 use Rattle.bd_spelling.specs.Reading.{Gives}

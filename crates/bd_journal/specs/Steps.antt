@@ -1,7 +1,7 @@
 -- Reading a journal entry by entry.
 use Rattle.std.specs.Prelude.{◌≡◌, ◌<◌, ℕ, List, [], ◌∷◌, length, ◌==◌, Option, Some, None, option_map, if◌then◌else◌}
 use Rattle.bd_space.specs.declared.step.Entry.{Entry}
-use Rattle.bd_space.specs.declared.record.Record.{Record}
+use Rattle.bd_spelling.specs.declared.record.Record.{Record}
 use Rattle.bd_spelling.specs.declared.versions.Version.{Version}
 use Rattle.bd_journal.specs.declared.steps.JournalReader.{JournalReader}
 use Rattle.bd_spelling.specs.Reading.{◌>>=◌, entries_from}

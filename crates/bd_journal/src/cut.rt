@@ -1,7 +1,7 @@
 //! Reading a journal that was cut off, or that is still being written.
 
 ghost use Rattle.std.specs.Prelude.{◌≡◌, List, ℕ, [], ◌++◌, length, IfOk, IfErr, None, Some};
-ghost use Rattle.bd_space.specs.declared.record.Record.{Record};
+ghost use Rattle.bd_spelling.specs.declared.record.Record.{Record};
 ghost use Rattle.bd_journal.specs.Cut.{Continues, IsCut, IsUncut, cut_in, whole_from};
 ghost use Rattle.bd_spelling.specs.Reading.{Gives};
 ghost use Rattle.bd_journal.specs.Reading.{heading_from};
@@ -9,8 +9,7 @@ ghost use Rattle.bd_spelling.specs.declared.fault.ReadError.TheVariants.{Malform
 ghost use Rattle.bd_journal.specs.Spelling.{IsRecordSeats, Tells};
 
 use crate::heading::heading_at;
-use bd_space::{Entries, Entry, Record};
-use bd_spelling::{ReadError, Version, entry_at};
+use bd_spelling::{Entries, Log, ReadError, Record, Version, entry_at};
 use std::alloc::Global;
 
 // The entries that are whole, and the bytes behind them. Only memory stops it before those.
@@ -19,15 +18,15 @@ fn whole_entries_at(
     version: Version,
     seats: u32,
     bytes: &[u8],
-) -> Result<(Vec<Entry>, &[u8]), ReadError>
-    ensures { Gives (λ x. (x.0.items, x.1.now)) result (Some (whole_from version seats (length bytes.now) bytes.now)) }
+) -> Result<(Log, &[u8]), ReadError>
+    ensures { Gives (λ x. (x.0.entries, x.1.now)) result (Some (whole_from version seats (length bytes.now) bytes.now)) }
 {
-    let mut entries = Vec::new(alloc);
+    let mut entries = Log::new(alloc);
     let mut rest = bytes;
     for _ in 0..bytes.len() {
         match entry_at(alloc, version, seats, rest) {
             Ok((entry, after)) => {
-                let Ok(()) = entries.push(entry) else {
+                let Ok(()) = entries.append(&entry) else {
                     return Err(ReadError::Memory);
                 };
                 rest = after;
@@ -48,7 +47,7 @@ fn cut_of(alloc: Global, bytes: &[u8]) -> Result<(Record, &[u8]), ReadError>
     let (entries, rest) = whole_entries_at(alloc, heading.version, heading.seats, heading.rest)?;
     let record = Record {
         seats: heading.seats,
-        entries: Entries::new(entries),
+        entries: Entries::from(entries),
     };
     Ok((record, rest))
 }

@@ -1,7 +1,8 @@
 //! Reading a journal entry by entry.
 
 ghost use Rattle.std.specs.Prelude.{◌≡◌, ◌<◌, List, ℕ, length, option_map, Some, IfOk, IfErr, IfSome, IsOkAnd};
-ghost use Rattle.bd_space.specs.declared.{record.Record.{Record}, step.Entry.{Entry}};
+ghost use Rattle.bd_space.specs.declared.step.Entry.{Entry};
+ghost use Rattle.bd_spelling.specs.declared.record.Record.{Record};
 ghost use Rattle.bd_spelling.specs.Reading.{Fails, Gives};
 ghost use Rattle.bd_journal.specs.Reading.{heading_from};
 ghost use Rattle.bd_journal.specs.Spelling.{IsRecordSeats, Tells};

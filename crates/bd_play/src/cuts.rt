@@ -59,7 +59,7 @@ pub fn mend_file<H: AllocGlobal + Files + Input, W: Write, E: Write>(
 ) -> u8 {
     match mended(rt, mend) {
         Ok(whole) => {
-            let entries = whole.record.entries.as_slice().len();
+            let entries = whole.record.entries.len();
             print_whole("mended", entries, whole.left, out, err)
         }
         Err(fault) => tell(fault, err),

@@ -1,7 +1,7 @@
 //! The journal of a run, on its way to its file.
 
 use bd_player::{ProgramFault, write_journal};
-use bd_space::Record;
+use bd_spelling::Record;
 use std::fs::{OpenFile, OpenOptions, Permissions};
 use std::io::{BufWriter, ErrorKind};
 use std::rt::Files;

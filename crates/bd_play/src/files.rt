@@ -5,7 +5,7 @@ use crate::draft::{Draft, draft_for};
 use crate::progress::{Counted, Progress, lines_in};
 use crate::sources::{ENTRIES, INPUT, Source, opened};
 use bd_player::{Played, ProgramFault, check_journal, check_watched, play_from, tell};
-use bd_space::Record;
+use bd_spelling::Record;
 use std::fs;
 use std::io::{Eprint, Read, Write};
 use std::os::unix::fs::MetadataExt;

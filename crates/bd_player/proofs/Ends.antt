@@ -8,8 +8,9 @@ use Rattle.std.specs.List.{FoldsTo}
 use Rattle.std.proofs.lemmas.List.{drop_all, take_all, append-nil}
 use Rattle.atomic_table.specs.Seated.{TableId}
 use Rattle.bd_space.specs.declared.step.Request.{Request}
-use Rattle.bd_space.specs.declared.record.Record.{Record}
-use Rattle.bd_space.specs.Histories.{IsHistory, history_in}
+use Rattle.bd_spelling.specs.declared.record.Record.{Record}
+use Rattle.bd_space.specs.Histories.{IsHistory}
+use Rattle.bd_spelling.specs.Records.{history_in}
 use Rattle.bd_driver.specs.States.{SeatState}
 use Rattle.bd_driver.specs.Together.{AllSeats, IsFinal, new_seats}
 use Rattle.bd_driver.specs.Handing.{Collects, Withdraws}

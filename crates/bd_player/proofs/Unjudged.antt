@@ -1,7 +1,7 @@
 -- What is said of a journal, or why nothing is.
 use Rattle.std.proofs.Common.{◌≡◌, List, [], ℕ, Option, Some, None, Result, Ok, Err, IfSome, sym, subst}
 use Rattle.std.specs.Prelude.{IfErr}
-use Rattle.bd_space.specs.declared.record.Record.{Record}
+use Rattle.bd_spelling.specs.declared.record.Record.{Record}
 use Rattle.bd_journal.specs.Cut.{HasHeading, IsUncut, IsUnread}
 use Rattle.bd_journal.specs.Spelling.{Tells}
 use Rattle.bd_spelling.specs.declared.fault.ReadError.{ReadError}

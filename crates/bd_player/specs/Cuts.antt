@@ -1,7 +1,8 @@
 -- What is said of a journal that was cut off, and when that is so.
 use Rattle.std.specs.Prelude.{◌≡◌, ℕ, List, length, Option, IfSome}
-use Rattle.bd_space.specs.declared.record.Record.{Record}
-use Rattle.bd_space.specs.Histories.{IsLawful, history_in}
+use Rattle.bd_spelling.specs.declared.record.Record.{Record}
+use Rattle.bd_space.specs.Histories.{IsLawful}
+use Rattle.bd_spelling.specs.Records.{history_in}
 use Rattle.bd_journal.specs.Cut.{HasHeading, IsCut}
 use Rattle.bd_player.specs.Verdicts.{Holds}
 use Rattle.bd_player.specs.declared.{cuts.Whole.{Whole}, verdicts.Verdict.{Verdict}}

@@ -9,5 +9,5 @@ use Rattle.bd_player.specs.Pids.{pid_in}
 -- the entry at this place, and the pid of the process that made it
 pub record IsEntryAt (h : History) (place : ℕ) (m : Made) : Type 0 where
   pub place_is : m.place ≡ place
-  pub entry : slice_get h.entries place ≡ Some m.entry.now
-  pub pid : m.pid ≡ pid_in (beginning place h) h.entries m.entry.now
+  pub entry : slice_get h.entries place ≡ Some m.entry
+  pub pid : m.pid ≡ pid_in (beginning place h) h.entries m.entry

@@ -1,7 +1,7 @@
 -- What writing a journal came to.
 use Rattle.std.specs.Prelude.{ℕ, List, Option, Bool, true, false}
 use Rattle.std.specs.Io.KnownBytes.{Appends}
-use Rattle.bd_space.specs.declared.record.Record.{Record}
+use Rattle.bd_spelling.specs.declared.record.Record.{Record}
 use Rattle.bd_journal.specs.Spelling.{IsJournal, journal_bytes}
 use Rattle.bd_spelling.specs.Writing.{Begins}
 

@@ -1,8 +1,9 @@
 -- What is said of a journal, and when that is so.
 use Rattle.std.specs.Prelude.{◌≡◌, ℕ, List, length, Option, IfSome}
 use Rattle.bd_engine.specs.Refusals.{IsLiveSeats}
-use Rattle.bd_space.specs.declared.record.Record.{Record}
-use Rattle.bd_space.specs.Histories.{IsHistory, IsLawful, history_in}
+use Rattle.bd_spelling.specs.declared.record.Record.{Record}
+use Rattle.bd_space.specs.Histories.{IsHistory, IsLawful}
+use Rattle.bd_spelling.specs.Records.{history_in}
 use Rattle.bd_journal.specs.{Cut.{HasHeading}, Spelling.{Tells}}
 use Rattle.bd_spelling.specs.declared.fault.ReadError.{ReadError}
 use Rattle.bd_spelling.specs.declared.fault.ReadError.TheVariants.{Malformed}

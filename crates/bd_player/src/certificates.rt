@@ -2,7 +2,8 @@
 
 ghost use Rattle.std.specs.{Prelude.{◌≡◌, Some, length, IfOk, IfSome, MatchOption, is_some}, List.{slice_get}};
 ghost use Rattle.bd_engine.specs.Refusals.{IsLiveSeats};
-ghost use Rattle.bd_space.specs.Histories.{IsHistory, space_after, history_in};
+ghost use Rattle.bd_space.specs.Histories.{IsHistory, space_after};
+ghost use Rattle.bd_spelling.specs.Records.{history_in};
 ghost use Rattle.bd_engine.specs.Looks as looks;
 ghost use Rattle.bd_audit.specs.{CallOf.{IsAnswerOf}, Gifts.{IsChainOf}, Replays.{with_entry}, Replies.{call_answered}};
 ghost use Rattle.bd_audit.specs.TurnCalls.{AreTurns};
@@ -14,7 +15,8 @@ use crate::texts::OrDash;
 use crate::untold::Untold;
 use bd_audit::{Turn, advance, call_of_reply, gift_chain, oneway_turns};
 use bd_engine::{Looks, WideEngine};
-use bd_space::{Entry, ObjectId, Record};
+use bd_space::{Entry, ObjectId};
+use bd_spelling::Record;
 use std::alloc::Global;
 use std::fmt;
 use std::io::Write;
@@ -150,7 +152,8 @@ fn gifts_at(
     ensures gifts { IfOk result (λ made. Rise 0 «record».now.entries places.now
         → AreGiftsAt (history_in «record».now) places.now made.1.items) }
 {
-    let entries = record.entries.as_slice();
+    let copied = record.entries.copied(alloc)?;
+    let entries = copied.as_slice();
     let mut engine = WideEngine::new(alloc, record.seats)?;
     let mut gifts = Vec::new(alloc);
     for entry in entries {
@@ -208,7 +211,8 @@ pub(crate) fn tell_chain<W: Write>(
         writeln!(out, "no such name")?;
         return Ok(false);
     };
-    if let Some(named) = Named::by(&engine, record.entries.as_slice(), pid, number) {
+    let entries = record.entries.copied(alloc)?;
+    if let Some(named) = Named::by(&engine, &entries, pid, number) {
         writeln!(out, "{named}")?;
     }
     print_gifts(gifts.as_slice(), out)?;

@@ -10,7 +10,7 @@ use crate::judging::{cut_verdict, fault_of};
 use crate::verdicts::Verdict;
 use bd_audit::Watch;
 use bd_journal::read_cut;
-use bd_space::Record;
+use bd_spelling::Record;
 use std::alloc::Global;
 use std::io::{Read, Write};
 

@@ -10,7 +10,7 @@ use crate::playing::read_on;
 use crate::verdicts::{Judged, Verdict, judgment_on};
 use bd_audit::{Unwatched, Watch};
 use bd_journal::behind_magic;
-use bd_space::Record;
+use bd_spelling::Record;
 use std::alloc::Global;
 use std::io::{Read, Write};
 

@@ -1,7 +1,7 @@
 //! Judging a journal as it is read: no entry is kept.
 
 ghost use Rattle.std.specs.Prelude.{◌≡◌, IfOk, IfErr};
-ghost use Rattle.bd_space.specs.declared.record.Record.{Record};
+ghost use Rattle.bd_spelling.specs.declared.record.Record.{Record};
 ghost use Rattle.bd_audit.specs.Journals.{IsJudgment};
 ghost use Rattle.bd_player.specs.{Cuts.{IsCutUnjudged, IsCutVerdict}, Verdicts.{Holds, IsUnjudged, IsVerdict, fault_told}};
 

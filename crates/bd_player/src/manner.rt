@@ -1,7 +1,8 @@
 //! How a script is played.
 
 ghost use Rattle.std.specs.Prelude.{IfSome};
-ghost use Rattle.bd_space.specs.Histories.{IsHistory, history_in};
+ghost use Rattle.bd_space.specs.Histories.{IsHistory};
+ghost use Rattle.bd_spelling.specs.Records.{history_in};
 
 use crate::playing::{Played, play};
 use crate::threads::play_threads;

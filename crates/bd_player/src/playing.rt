@@ -2,7 +2,8 @@
 
 ghost use Rattle.std.specs.Prelude.{◌≡◌, ◌++◌, false, All, IfOk, IfErr, IfSome, MatchResult, None, Some};
 ghost use Rattle.bd_uapi.specs.Limits.{IsSeats};
-ghost use Rattle.bd_space.specs.Histories.{IsHistory, history_in};
+ghost use Rattle.bd_space.specs.Histories.{IsHistory};
+ghost use Rattle.bd_spelling.specs.Records.{history_in};
 ghost use Rattle.bd_driver.specs.Together.{new_seats};
 ghost use Rattle.bd_player.specs.{Playing.{Plays, RunsOn}, Workers.{fault_status}};
 ghost use Rattle.bd_player.specs.declared.faults.ProgramFault.TheVariants.{Journal};
@@ -13,7 +14,7 @@ use crate::sink::Sink;
 use crate::worker::act;
 use bd_driver::{Desk, Driver, Seat};
 use bd_script::{Line, Script, ScriptError, explain, read_script};
-use bd_space::Record;
+use bd_spelling::Record;
 use std::alloc::Global;
 use std::io::{Read, Write};
 

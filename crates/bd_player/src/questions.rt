@@ -2,12 +2,14 @@
 
 ghost use Rattle.std.specs.Prelude.{IfOk};
 ghost use Rattle.bd_engine.specs.Refusals.{IsLiveSeats};
-ghost use Rattle.bd_space.specs.Histories.{IsHistory, history_in};
+ghost use Rattle.bd_space.specs.Histories.{IsHistory};
+ghost use Rattle.bd_spelling.specs.Records.{history_in};
 ghost use Rattle.bd_player.specs.Answered.{IsThere};
 
 use crate::certificates::{tell_answered, tell_chain, tell_turns};
 use crate::untold::Untold;
-use bd_space::{ObjectId, Record};
+use bd_space::ObjectId;
+use bd_spelling::Record;
 use std::alloc::Global;
 use std::io::Write;
 
@@ -24,7 +26,7 @@ pub enum Question {
 
 // Whether every place that the question names is one of the history.
 fn is_within(question: Question, record: &Record) -> bool {
-    let len = record.entries.as_slice().len();
+    let len = record.entries.len();
     match question {
         Question::Chain { .. } => true,
         Question::CallOfReply { place } | Question::Turns { place, .. } => (place as usize) < len,

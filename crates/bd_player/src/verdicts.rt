@@ -2,14 +2,14 @@
 
 ghost use Rattle.std.specs.Prelude.{◌≡◌, IfOk, IfErr};
 ghost use Rattle.bd_engine.specs.Refusals.{IsLiveSeats};
-ghost use Rattle.bd_space.specs.{declared.record.Record.{Record}};
+ghost use Rattle.bd_spelling.specs.declared.record.Record.{Record};
 ghost use Rattle.bd_player.specs.{Verdicts.{IsUnjudged, IsVerdict, IsJudged, Judges}, declared.faults.ProgramFault.TheVariants.{Memory}};
 
 use crate::faults::ProgramFault;
 use crate::judging::{fault_of, verdict_watched};
 use bd_audit::{AuditFault, Unwatched, Watch, replay_watched};
 use bd_journal::read_journal;
-use bd_space::Record;
+use bd_spelling::Record;
 use std::alloc::Global;
 
 /// What is said of a journal that can be read.

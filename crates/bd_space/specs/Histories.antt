@@ -1,18 +1,15 @@
 -- Histories: lists of steps in which each answer follows from the steps before.
 use Rattle.std.specs.Prelude.{ℕ, zero, suc, ◌+◌, ◌^◌, ◌≡◌, ◌≤◌, ◌<◌, nat_lt, nat_le, Bool, true, false, not, ◌||◌, List, [], ◌∷◌, ◌++◌, length, Option, if◌then◌else◌}
-use Rattle.bd_space.specs.{Words.{list_all, Step, StepAnswer, Entry, Record, is_some_and, Space, opening}, Seats.thread_in, Names.has_number_past_limit, Todo.list_to_read, ReadItems.none_due, Steps.step}
+use Rattle.bd_space.specs.{Words.{list_all, Step, StepAnswer, Entry, is_some_and, Space, opening}, Seats.thread_in, Names.has_number_past_limit, Todo.list_to_read, ReadItems.none_due, Steps.step}
 
 -- the seats of a driver, and what has happened
 pub record History : Type 0 where
   pub seats : ℕ
   pub entries : List Entry
 
--- the history of so many seats with these entries, and the one that a record tells
+-- the history of so many seats with these entries
 abbrev pub history_of : ℕ → List Entry → History
 history_of seats entries = record { seats = seats; entries = entries }
-
-abbrev pub history_in : Record → History
-history_in r = history_of r.seats r.entries
 
 -- these entries begin with those
 abbrev pub BeginsWith : List Entry → List Entry → Type 0

@@ -6,7 +6,7 @@ pub use Rattle.bd_uapi.specs.{declared.command.{Command.Command, Return.Return, 
 pub use Rattle.bd_uapi.specs.declared.object.{FlatObject.FlatObject, ObjectKind.TheVariants.Binder, ObjectKind.TheVariants.WeakBinder, ObjectKind.TheVariants.Handle, ObjectKind.TheVariants.WeakHandle}
 pub use Rattle.bd_codec.specs.{Reading.command_at, Spelling.return_bytes}
 pub use Rattle.bd_parcel.specs.{Parcels.offsets_in, Parcels.fault_in, Reading.object_at, declared.fault.WalkFault.WalkFault}
-pub use Rattle.bd_space.specs.declared.{record.Record.Record, step.Answer.Answer, step.Entry.Entry, step.Identity.Identity, step.Parcel.Parcel, step.Request.Request, step.Step.Step, step.StepAnswer.StepAnswer, step.Stop.Stop}
+pub use Rattle.bd_space.specs.declared.{step.Answer.Answer, step.Entry.Entry, step.Identity.Identity, step.Parcel.Parcel, step.Request.Request, step.Step.Step, step.StepAnswer.StepAnswer, step.Stop.Stop}
 pub use Rattle.bd_space.specs.declared.space.{Actor.Actor, Buffer.Buffer, Callee.Callee, DeathNotification.DeathNotification, Frame.Frame, Origin.Origin, Item.Item, Name.Name, Object.Object}
 pub use Rattle.bd_space.specs.declared.space.{Process.Process, Reference.Reference, Resolved.Resolved, Thread.Thread, Turn.Turn, Work.Work, WorkKind.WorkKind, Holder.Holder, Phase.Phase, Server.Server, TodoList.TodoList}
 pub use Rattle.bd_space.specs.declared.space.{Holder.TheVariants.{Asked, Carried, Target, Handshake, Manager}, Phase.TheVariants.{Armed, Queued, Told, Done}, Server.TheVariants.{Pending, Serving, Gone}, TodoList.TheVariants.{OfThread, OfProcess}}

@@ -1,6 +1,6 @@
 //! Identities of objects in a history that has an end, whose places have 32 bits.
 
-ghost use Rattle.std.specs.Prelude.{◌≡◌, ◌≤◌, ◌^◌, MatchOption};
+ghost use Rattle.std.specs.Prelude.{◌≡◌};
 
 use crate::step::Identity;
 use std::marker::Model;
@@ -34,17 +34,4 @@ impl From<ObjectId> for Identity {
             index: o.index,
         }
     }
-}
-
-/// The identity of a history that has an end; none where its place needs more than 32 bits.
-pub fn narrow(o: Identity) -> Option<ObjectId>
-    ensures { MatchOption result (2 ^ 32 ≤ o.place) (λ n. n ≡ o) }
-{
-    if o.place > u64::from(u32::MAX) {
-        return None;
-    }
-    Some(ObjectId {
-        place: o.place as u32,
-        index: o.index,
-    })
 }

@@ -1,15 +1,13 @@
-//! Requests, steps, answers and records, and the definitions of the object space.
+//! Requests, steps and answers, and the definitions of the object space.
 #![tactic(auto)]
 
 mod bytes;
 mod ids;
-mod record;
 mod space;
 mod step;
 
 pub use bytes::{Bytes, Notes};
-pub use ids::{ObjectId, narrow};
-pub use record::{Entries, Record};
+pub use ids::ObjectId;
 pub use space::{
     Actor, Buffer, Callee, DeathNotification, Frame, Holder, Item, Name, Object, Origin, Phase,
     Process, Reference, Resolved, Server, Thread, TodoList, Turn, Work, WorkKind,

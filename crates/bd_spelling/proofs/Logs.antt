@@ -1,5 +1,5 @@
 -- Bytes that are kept as spellings: what is read from them when one comes, and when the first is taken.
-use Rattle.std.proofs.Common.{max, ◌≡◌, ℕ, ◌+◌, ◌-◌, ◌<◌, ◌≤◌, List, [], ◌∷◌, ◌++◌, length, Some, refl, sym, ap, subst, ◌∙◌, arith}
+use Rattle.std.proofs.Common.{max, ◌≡◌, ℕ, zero, suc, ◌+◌, ◌-◌, ◌<◌, ◌≤◌, List, [], ◌∷◌, ◌++◌, length, Some, get_or, refl, sym, ap, subst, ◌∙◌, arith}
 use Rattle.std.specs.List.{flat_map, AllByRecursion}
 use Rattle.std.proofs.lemmas.List.{append-nil, append_assoc, length-append}
 use Rattle.std.proofs.lemmas.List.Concat.{flat_map-cons}
@@ -11,7 +11,7 @@ use Rattle.bd_spelling.specs.Spelling.{entry_bytes, step_bytes, answer_bytes, bl
 use Rattle.bd_spelling.specs.Reading.{entry_from, entries_from}
 use Rattle.bd_spelling.proofs.FieldLaws.{some_is}
 use Rattle.bd_spelling.proofs.Laws.{entry_again, entries_again}
-use Rattle.bd_spelling.specs.Logged.{LogView, all_entries, AreSpelled, AreSeatsOf, entries_in, read_of, every_seat}
+use Rattle.bd_spelling.specs.Logged.{LogView, all_entries, entries_of, AreSpelled, AreSeatsOf, entries_in, read_of, every_seat}
 
 told : (es : List Entry) → AllByRecursion (IsEntry every_seat) es → entries_in (length es) (flat_map entry_bytes es) ≡ es
 unfolding entries_in
@@ -50,7 +50,7 @@ more n bytes e s fit =
 
 -- ---- how many seats entries take
 
-wider : (n m : ℕ) (es : List Entry) → n ≤ m → AllByRecursion (IsEntry n) es → AllByRecursion (IsEntry m) es
+pub wider : (n m : ℕ) (es : List Entry) → n ≤ m → AllByRecursion (IsEntry n) es → AllByRecursion (IsEntry m) es
 wider n m [] more fit = tt
 wider n m (e ∷ es) more fit = (record { seat = omega (arith, fit.0.seat, more); step = fit.0.step; step_block = fit.0.step_block; answer = fit.0.answer; answer_block = fit.0.answer_block }, wider n m es more fit.1)
 
@@ -81,13 +81,13 @@ first n bytes e rest s some read = by (entries_in n bytes) refl
         let after = spells (n - 1) rest es (omega (arith, s.counted, ap length is)) (sym (ap (λ (p : Entry × List ℕ). p.1) same)) fit.1 in
         (sym is ∙ ap (λ (y : Entry). y ∷ es) (ap (λ (p : Entry × List ℕ). p.0) same) ∙ ap (λ (t : List Entry). e ∷ t) (sym after.0), after.1)
 
+pub nothing : (es : List Entry) → length es ≡ 0 → es ≡ []
+nothing [] none = refl
+nothing (x ∷ es) none = absurd (omega (arith, none))
+
 -- where the count is 0 nothing is read
 pub none_left : (bytes : List ℕ) → AreSpelled 0 bytes → entries_in 0 bytes ≡ []
-none_left bytes s = by (entries_in 0 bytes) s.counted
-  where
-    by : (es : List Entry) → length es ≡ 0 → es ≡ []
-    by [] c = refl
-    by (x ∷ es) c = absurd (omega (arith, c))
+none_left bytes s = nothing (entries_in 0 bytes) s.counted
 
 -- an entry that comes, by the new count and the new bytes
 pub more_at : (n m : ℕ) (bytes all : List ℕ) (e : Entry) → AreSpelled n bytes → IsEntry every_seat e → m ≡ n + 1 → all ≡ bytes ++ entry_bytes e → (entries_in m all ≡ entries_in n bytes ++ e ∷ []) × AreSpelled m all
@@ -120,3 +120,10 @@ spelled_all (c ∷ full) last =
     ∙ ap (λ (t : List ℕ). piece c ++ t) (spelled_all full last)
     ∙ sym (flat_map-append entry_bytes c.entries (all_entries full last))
     ∙ ap (flat_map entry_bytes) (sym (append_assoc c.entries (flat_map (λ (x : LogView). x.entries) full) last.entries))
+
+-- where chunks have no entry, each of them has none
+pub none_in : (full : List LogView) (at : ℕ) (x : LogView) → at < length full → length (entries_of full) ≡ 0 → length (get_or full at x).entries ≡ 0
+none_in [] at x within none = absurd (omega (arith, within))
+none_in (c ∷ full) zero x within none = omega (arith, none, ap length (flat_map-cons (λ (y : LogView). y.entries) c full), length-append c.entries (entries_of full))
+none_in (c ∷ full) (suc at) x within none =
+    none_in full at x (omega (arith, within)) (omega (arith, none, ap length (flat_map-cons (λ (y : LogView). y.entries) c full), length-append c.entries (entries_of full)))

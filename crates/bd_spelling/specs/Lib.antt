@@ -4,3 +4,4 @@ pub mod Reading
 pub mod Writing
 pub mod Laid
 pub mod Logged
+pub mod Records

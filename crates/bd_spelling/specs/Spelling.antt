@@ -114,6 +114,17 @@ pub record IsEntryWith (spam : Bool) (seats : ℕ) (e : Entry) : Type 0 where
 abbrev pub IsEntryIn : Version → ℕ → Entry → Type 0
 IsEntryIn v seats e = IsEntryWith (has_spam v) seats e
 
+-- the bytes spell the step's command; of a step without one they say nothing
+abbrev pub SpellsCommand : Step → List ℕ → Type 0
+SpellsCommand (step.Command c parcel) bytes = (bytes ≡ command_bytes c) × IsCommand c
+SpellsCommand (step.Open pid euid window) bytes = Unit {0}
+SpellsCommand (step.Attach pid) bytes = Unit {0}
+SpellsCommand step.SetManager bytes = Unit {0}
+SpellsCommand (step.SetSpam on) bytes = Unit {0}
+SpellsCommand (step.Read limit) bytes = Unit {0}
+SpellsCommand step.ExitThread bytes = Unit {0}
+SpellsCommand step.ExitProcess bytes = Unit {0}
+
 -- The step can be written, in the versions that are written today.
 abbrev pub IsStep : Step → Type 0
 IsStep s = IsStepWith true s

@@ -2,7 +2,7 @@
 
 ghost use Rattle.std.specs.Prelude.{◌≡◌, ◌+◌, ◌-◌, ◌++◌, ◌∷◌, ◌≤◌, [], length, IfOk, IfErr, OnOk, OnErr, Some, MatchOption};
 ghost use Rattle.std.specs.List.{flat_map};
-ghost use Rattle.bd_spelling.specs.Spelling.{IsEntry, entry_bytes};
+ghost use Rattle.bd_spelling.specs.Spelling.{IsEntry, SpellsCommand, entry_bytes};
 ghost use Rattle.bd_spelling.specs.Logged.{every_seat};
 
 use crate::fault::ReadError;
@@ -80,14 +80,15 @@ impl Chunk {
         self.bytes.as_slice()
     }
 
-    /// Adds an entry that a journal spells and that fits into the room. It can't fail.
-    pub fn push(&mut self, entry: &Entry)
+    /// Adds an entry that a journal spells, whose command these bytes spell, and that fits into the room. It can't fail.
+    pub fn push(&mut self, entry: &Entry, command: &[u8])
+        requires command { SpellsCommand entry.now.step command.now }
         requires spelled { IsEntry every_seat entry.now }
         requires room { length (entry_bytes entry.now) ≤ self.old.room }
         ensures entries { self.new.entries ≡ self.old.entries ++ entry.now ∷ [] }
         ensures room { self.old.room ≤ self.new.room + length (entry_bytes entry.now) }
     {
-        put_entry(&mut self.bytes, entry);
+        put_entry(&mut self.bytes, entry, command);
         self.count += 1;
     }
 
@@ -143,6 +144,8 @@ impl ChunkReader<'_> {
     pub fn next(&mut self, alloc: Global) -> Result<Option<Entry>, AllocError>
         ensures next { IfOk result (λ e. MatchOption e (self.old ≡ []) (λ x. self.old ≡ x ∷ self.new)) }
         ensures err { OnErr result (self.new ≡ self.old) }
+        // Memory was asked for: an entry was left.
+        ensures grown { OnErr result (self.old ≡ [] → ⊥) }
     {
         if self.left == 0 {
             return Ok(None);

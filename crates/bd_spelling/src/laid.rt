@@ -3,12 +3,11 @@
 ghost use Rattle.std.specs.Prelude.{◌≡◌, ◌+◌, ◌≤◌, ◌<◌, length, IfSome, MatchOption};
 ghost use Rattle.bd_uapi.specs.Bytes.{word};
 ghost use Rattle.bd_spelling.specs.Writing.{Measures};
-ghost use Rattle.bd_spelling.specs.Spelling.{IsBlock, IsStep, IsAnswer, IsEntry, block, parcel_bytes, step_bytes, answer_bytes, entry_bytes};
+ghost use Rattle.bd_spelling.specs.Spelling.{IsBlock, IsStep, IsAnswer, IsEntry, SpellsCommand, block, parcel_bytes, step_bytes, answer_bytes, entry_bytes};
 ghost use Rattle.bd_spelling.specs.Laid.{IsLaid, IsLaidIfRoom};
 
 use crate::codes::{cause_number, fault_number, note_number};
-use crate::writing::{answer_len, step_len};
-use bd_codec::spell_command;
+use crate::writing::{answer_len, command_of, step_len};
 use bd_space::{Entry, Parcel, Step, StepAnswer};
 
 // Copies bytes to a place, and answers the place behind them.
@@ -52,8 +51,10 @@ fn lay_parcel(out: &mut [u8], at: usize, parcel: &Option<Parcel>) -> usize
     }
 }
 
-fn lay_step(out: &mut [u8], at: usize, step: &Step) -> usize
+fn lay_step(out: &mut [u8], at: usize, step: &Step, command: &[u8]) -> usize
+    requires command { SpellsCommand step.now command.now }
     requires spelled { IsStep step.now }
+    requires fits { IsBlock (step_bytes step.now) }
     requires room { at + length (step_bytes step.now) ≤ length out.old }
     ensures { IsLaid at (step_bytes step.now) out.old out.new result }
 {
@@ -70,9 +71,9 @@ fn lay_step(out: &mut [u8], at: usize, step: &Step) -> usize
         }
         Step::SetManager => lay(out, at, &[2]),
         Step::SetSpam { on } => lay(out, at, &[7, u8::from(*on)]),
-        Step::Command { command, parcel } => {
+        Step::Command { parcel, .. } => {
             let at = lay(out, at, &[3]);
-            let at = lay_block(out, at, spell_command(command).as_slice());
+            let at = lay_block(out, at, command);
             lay_parcel(out, at, parcel)
         }
         Step::Read { limit } => {
@@ -119,13 +120,15 @@ pub fn lay_entry(seats: u32, entry: &Entry, out: &mut [u8]) -> Option<usize>
     if entry.seat >= seats {
         return None;
     }
-    let step = step_len(&entry.step)?;
+    let spelling = command_of(&entry.step);
+    let command = spelling.as_slice();
+    let step = step_len(&entry.step, command)?;
     let answer = answer_len(&entry.answer)?;
     let len = 12 + step as usize + answer as usize;
     if len <= out.len() {
         let at = lay_word(out, 0, entry.seat);
         let at = lay_word(out, at, step);
-        let at = lay_step(out, at, &entry.step);
+        let at = lay_step(out, at, &entry.step, command);
         let at = lay_word(out, at, answer);
         let _end = lay_answer(out, at, &entry.answer);
     }

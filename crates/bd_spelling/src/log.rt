@@ -2,14 +2,14 @@
 
 ghost use Rattle.std.specs.Prelude.{◌≡◌, ◌+◌, ◌++◌, ◌∷◌, ◌≤◌, ◌<◌, [], length, IfOk, OnOk, OnErr, Some, MatchOption};
 ghost use Rattle.std.specs.List.{flat_map};
-ghost use Rattle.bd_spelling.specs.Spelling.{IsEntry, entry_bytes};
+ghost use Rattle.bd_spelling.specs.Spelling.{IsEntry, SpellsCommand, entry_bytes};
 ghost use Rattle.bd_spelling.specs.Logged.{AreSeatsOf, every_seat};
 ghost use Rattle.bd_spelling.specs.Writing.{Sends};
 
 use crate::chunk::{Chunk, ChunkReader, EVERY_SEAT};
 use crate::fault::Refused;
 use crate::sending::send;
-use crate::writing::{answer_len, step_len};
+use crate::writing::{answer_len, command_of, step_len};
 use bd_space::Entry;
 use std::alloc::{AllocError, Global};
 use std::io::Write;
@@ -75,6 +75,8 @@ impl Log {
     pub fn reserve(&mut self, bytes: usize) -> Result<(), AllocError>
         ensures entries { self.new.entries ≡ self.old.entries }
         ensures room { OnOk result (bytes ≤ self.new.room) }
+        // Memory was asked for: the room was less.
+        ensures grown { OnErr result (self.old.room < bytes) }
     {
         if bytes <= self.last.room() {
             return Ok(());
@@ -86,15 +88,16 @@ impl Log {
         Ok(())
     }
 
-    /// Adds an entry that a journal spells and for which room was made. It can't fail.
-    pub fn push(&mut self, entry: &Entry)
+    /// Adds an entry that a journal spells, whose command these bytes spell, and for which room was made. It can't fail.
+    pub fn push(&mut self, entry: &Entry, command: &[u8])
+        requires command { SpellsCommand entry.now.step command.now }
         requires spelled { IsEntry every_seat entry.now }
         requires room { length (entry_bytes entry.now) ≤ self.old.room }
         requires count { length self.old.entries + 1 < 18446744073709551616 }
         ensures entries { self.new.entries ≡ self.old.entries ++ entry.now ∷ [] }
         ensures room { self.old.room ≤ self.new.room + length (entry_bytes entry.now) }
     {
-        self.last.push(entry);
+        self.last.push(entry, command);
         self.count += 1;
         self.seats = self.seats.max(entry.seat + 1);
     }
@@ -103,15 +106,21 @@ impl Log {
     pub fn append(&mut self, entry: &Entry) -> Result<(), AllocError>
         ensures added { OnOk result (self.new.entries ≡ self.old.entries ++ entry.now ∷ []) }
         ensures err { OnErr result (self.new.entries ≡ self.old.entries) }
+        // Memory was asked for, where there is a spelling and a number for the entry: the room was less.
+        ensures grown { OnErr result (IsEntry every_seat entry.now → length self.old.entries + 1 < 18446744073709551616
+            → self.old.room < length (entry_bytes entry.now)) }
     {
         if self.count == usize::MAX || entry.seat == EVERY_SEAT {
             return Err(AllocError);
         }
-        let (Some(step), Some(answer)) = (step_len(&entry.step), answer_len(&entry.answer)) else {
+        let spelling = command_of(&entry.step);
+        let command = spelling.as_slice();
+        let (Some(step), Some(answer)) = (step_len(&entry.step, command), answer_len(&entry.answer))
+        else {
             return Err(AllocError);
         };
         self.reserve(12 + step as usize + answer as usize)?;
-        self.push(entry);
+        self.push(entry, command);
         Ok(())
     }
 
@@ -128,7 +137,9 @@ impl Log {
 
     /// The entries themselves, in a vector. Errors: memory was refused.
     pub fn copied(&self, alloc: Global) -> Result<Vec<Entry>, AllocError>
-        ensures { IfOk result (λ v. v.items ≡ self.now.entries) }
+        ensures copied { IfOk result (λ v. v.items ≡ self.now.entries) }
+        // Memory was asked for: none is for no entries.
+        ensures grown { OnErr result (self.now.entries ≡ [] → ⊥) }
     {
         let mut entries = Vec::new(alloc);
         for chunk in &self.full {
@@ -158,7 +169,8 @@ fn append(
     mut from: ChunkReader<'_>,
     entries: &mut Vec<Entry>,
 ) -> Result<(), AllocError>
-    ensures { OnOk result (entries.new.items ≡ entries.old.items ++ from.entry) }
+    ensures all { OnOk result (entries.new.items ≡ entries.old.items ++ from.entry) }
+    ensures grown { OnErr result (from.entry ≡ [] → ⊥) }
 {
     for _ in 0..from.len() {
         match from.next(alloc)? {
@@ -195,6 +207,8 @@ impl LogReader<'_> {
     pub fn next(&mut self, alloc: Global) -> Result<Option<Entry>, AllocError>
         ensures next { IfOk result (λ e. MatchOption e (self.old ≡ []) (λ x. self.old ≡ x ∷ self.new)) }
         ensures err { OnErr result (self.new ≡ self.old) }
+        // Memory was asked for: an entry was left.
+        ensures grown { OnErr result (self.old ≡ [] → ⊥) }
     {
         while self.here.len() == 0 {
             let next = match self.rest.split_first() {

@@ -3,12 +3,11 @@
 ghost use Rattle.std.specs.Prelude.{◌≡◌, ◌+◌, ◌++◌, ◌≤◌, ◌<◌, ◌^◌, ◌∷◌, [], length, vec_len, vec_capacity, IfSome};
 ghost use Rattle.bd_uapi.specs.Bytes.{word};
 ghost use Rattle.bd_spelling.specs.Writing.{Measures};
-ghost use Rattle.bd_spelling.specs.Spelling.{IsBlock, IsStep, IsAnswer, IsEntry, block, parcel_bytes, step_bytes, answer_bytes, entry_bytes};
+ghost use Rattle.bd_spelling.specs.Spelling.{IsBlock, IsStep, IsAnswer, IsEntry, SpellsCommand, block, parcel_bytes, step_bytes, answer_bytes, entry_bytes};
 ghost use Rattle.bd_spelling.specs.Logged.{every_seat};
 
 use crate::codes::{cause_number, fault_number, note_number};
 use crate::writing::{answer_len, step_len};
-use bd_codec::spell_command;
 use bd_space::{Entry, Parcel, Step, StepAnswer};
 
 // Appends bytes for which there is room.
@@ -58,8 +57,10 @@ fn put_parcel(out: &mut Vec<u8>, parcel: &Option<Parcel>)
     }
 }
 
-fn put_step(out: &mut Vec<u8>, step: &Step)
+fn put_step(out: &mut Vec<u8>, step: &Step, command: &[u8])
+    requires command { SpellsCommand step.now command.now }
     requires spelled { IsStep step.now }
+    requires fits { IsBlock (step_bytes step.now) }
     requires room { vec_len out.old + length (step_bytes step.now) ≤ vec_capacity out.old }
     ensures items { out.new.items ≡ out.old.items ++ step_bytes step.now }
     ensures len { vec_len out.new ≡ vec_len out.old + length (step_bytes step.now) }
@@ -78,9 +79,9 @@ fn put_step(out: &mut Vec<u8>, step: &Step)
         }
         Step::SetManager => put(out, &[2]),
         Step::SetSpam { on } => put(out, &[7, u8::from(*on)]),
-        Step::Command { command, parcel } => {
+        Step::Command { parcel, .. } => {
             put(out, &[3]);
-            put_block(out, spell_command(command).as_slice());
+            put_block(out, command);
             put_parcel(out, parcel);
         }
         Step::Read { limit } => {
@@ -120,19 +121,20 @@ fn put_answer(out: &mut Vec<u8>, answer: &StepAnswer)
     }
 }
 
-/// Appends the one spelling of an entry that a journal spells. It can't fail.
-pub fn put_entry(out: &mut Vec<u8>, entry: &Entry)
+/// Appends the one spelling of an entry that a journal spells, whose command these bytes spell. It can't fail.
+pub fn put_entry(out: &mut Vec<u8>, entry: &Entry, command: &[u8])
+    requires command { SpellsCommand entry.now.step command.now }
     requires spelled { IsEntry every_seat entry.now }
     requires room { vec_len out.old + length (entry_bytes entry.now) ≤ vec_capacity out.old }
     ensures items { out.new.items ≡ out.old.items ++ entry_bytes entry.now }
     ensures len { vec_len out.new ≡ vec_len out.old + length (entry_bytes entry.now) }
     ensures capacity { vec_capacity out.old ≤ vec_capacity out.new }
 {
-    let step = step_len(&entry.step).unwrap();
+    let step = step_len(&entry.step, command).unwrap();
     let answer = answer_len(&entry.answer).unwrap();
     put_word(out, entry.seat);
     put_word(out, step);
-    put_step(out, &entry.step);
+    put_step(out, &entry.step, command);
     put_word(out, answer);
     put_answer(out, &entry.answer);
 }

@@ -4,13 +4,13 @@ ghost use Rattle.std.specs.{Prelude.{◌<◌, ◌^◌, length, IfSome}};
 ghost use Rattle.bd_space.specs.declared.step.Step.TheVariants as step;
 ghost use Rattle.bd_space.specs.declared.step.StepAnswer.TheVariants.{Got};
 ghost use Rattle.bd_spelling.specs.Writing.{Sends, Spells, Measures};
-ghost use Rattle.bd_spelling.specs.Spelling.{IsBlock, IsParcel, IsStep, IsAnswer, IsEntry, block, parcel_bytes, step_bytes, answer_bytes, entry_bytes};
+ghost use Rattle.bd_spelling.specs.Spelling.{IsBlock, IsParcel, IsStep, IsAnswer, IsEntry, SpellsCommand, block, parcel_bytes, step_bytes, answer_bytes, entry_bytes};
 
 use crate::codes::{cause_number, fault_number, note_number};
 use crate::fault::{Refused, WriteError};
 use crate::reading::carries_parcel;
 use crate::sending::{send, send_all};
-use bd_codec::spell_command;
+use bd_codec::{Spelling, spell_command};
 use bd_space::{Bytes, Entry, Parcel, Step, StepAnswer};
 use bd_uapi::Command;
 use std::io::Write;
@@ -49,8 +49,20 @@ fn parcel_len(command: &Command, parcel: &Option<Parcel>) -> Option<u64>
     Some(1 + data + offsets)
 }
 
-/// How many bytes the spelling of a step has; None where no journal spells it.
-pub fn step_len(step: &Step) -> Option<u32>
+/// What the command of a step is spelled by, without memory; of a step without one it is nothing that counts.
+pub fn command_of(step: &Step) -> Spelling
+    ensures { SpellsCommand step.now result }
+{
+    match step {
+        Step::Command { command, .. } => spell_command(command),
+        _ => spell_command(&Command::ExitLooper),
+    }
+}
+
+/// How many bytes the spelling of a step has; None where no journal spells it. The step's command, if it is one, is spelled by
+/// these bytes.
+pub fn step_len(step: &Step, command: &[u8]) -> Option<u32>
+    requires { SpellsCommand step.now command.now }
     ensures { Measures result (IsStep step.now × IsBlock (step_bytes step.now)) (length (step_bytes step.now)) }
 {
     match step {
@@ -64,9 +76,12 @@ pub fn step_len(step: &Step) -> Option<u32>
         }
         Step::SetManager | Step::ExitThread | Step::ExitProcess => Some(1),
         Step::SetSpam { on: _ } => Some(2),
-        Step::Command { command, parcel } => {
-            let parcel = parcel_len(command, parcel)?;
-            short(5 + spell_command(command).as_slice().len() as u64 + parcel)
+        Step::Command {
+            command: made,
+            parcel,
+        } => {
+            let parcel = parcel_len(made, parcel)?;
+            short(5 + command.len() as u64 + parcel)
         }
     }
 }
@@ -203,7 +218,11 @@ pub fn write_entry<W: Write>(seats: u32, entry: &Entry, out: &mut W) -> Result<(
     if entry.seat >= seats {
         return Err(WriteError::Unspellable);
     }
-    let (Some(step), Some(answer)) = (step_len(&entry.step), answer_len(&entry.answer)) else {
+    let command = command_of(&entry.step);
+    let (Some(step), Some(answer)) = (
+        step_len(&entry.step, command.as_slice()),
+        answer_len(&entry.answer),
+    ) else {
         return Err(WriteError::Unspellable);
     };
     send_all(&[&entry.seat.to_le_bytes(), &step.to_le_bytes()], out)?;

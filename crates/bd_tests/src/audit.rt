@@ -3,13 +3,15 @@
 
 ghost use Rattle.std.specs.Prelude.{IfOk};
 ghost use Rattle.bd_uapi.specs.Limits.{IsSeats};
-ghost use Rattle.bd_space.specs.Histories.{IsHistory, history_in};
+ghost use Rattle.bd_space.specs.Histories.{IsHistory};
+ghost use Rattle.bd_spelling.specs.Records.{history_in};
 
 use crate::same::{holds, same};
 use crate::steps::{enter, fields, open};
 use bd_audit::{Given, call_of_reply, gift_chain, given_at};
-use bd_engine::Engine;
-use bd_space::{Bytes, Parcel, Record, Step, StepAnswer};
+use bd_engine::{Engine, StepError};
+use bd_space::{Bytes, Parcel, Step, StepAnswer};
+use bd_spelling::Record;
 use bd_uapi::{Command, MOST_SEATS, TransactionData, TransactionFlags};
 use std::alloc::{AllocError, Global};
 use std::process::Abort;
@@ -47,6 +49,23 @@ fn reply_step(alloc: Global, place: u32) -> (u32, Step) {
 
 fn try_step(engine: &mut Engine, seat: u32, step: Step) -> bool {
     seat < engine.seats() && engine.step(seat, step).is_ok()
+}
+
+fn is_no_memory(engine: &mut Engine, seat: u32, step: Step) -> bool {
+    seat < engine.seats() && matches!(engine.step(seat, step), Err(StepError::NoMemory))
+}
+
+// An engine keeps its history as a journal spells it, and no journal has a parcel beside a command that carries none.
+#[test]
+fn keeps_no_step_that_no_journal_spells(rt: HostRuntime) -> Result<(), Fail> {
+    let mut engine = Engine::new(rt.alloc(), 1)?;
+    holds(&rt, "a process", try_step(&mut engine, 0, open(100, 1000)));
+    let unspelled = carried(rt.alloc(), Command::EnterLooper);
+    holds(&rt, "no memory", is_no_memory(&mut engine, 0, unspelled));
+    same(&rt, "steps", engine.len(), 1);
+    holds(&rt, "without a parcel", try_step(&mut engine, 0, enter()));
+    same(&rt, "steps", engine.len(), 2);
+    Ok(())
 }
 
 // The history of an engine.

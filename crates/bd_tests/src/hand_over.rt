@@ -5,7 +5,8 @@ ghost use Rattle.std.specs.Prelude.{◌≡◌, All, IfOk};
 use crate::same::{holds, same};
 use crate::seats::{entries_of, read};
 use bd_driver::{Driver, Outcome, Page, Seat, Served, Why};
-use bd_space::{Answer, Record, Request};
+use bd_space::{Answer, Request};
+use bd_spelling::Record;
 use std::alloc::{AllocError, Global};
 use std::test::Fail;
 use std::thread;
@@ -163,7 +164,7 @@ fn handed_over(rt: HostRuntime) -> Result<(), Fail> {
     holds(&rt, "taken back", taken_back);
     let record = finished(driver, seats, other, poster)?;
     same(&rt, "seats", record.seats, 2);
-    same(&rt, "entries", record.entries.as_slice().len(), 1);
+    same(&rt, "entries", record.entries.len(), 1);
     Ok(())
 }
 
@@ -246,8 +247,18 @@ fn handed_over_between_threads(rt: HostRuntime) -> Result<(), Fail> {
     holds(&rt, "collected", collected);
     holds(&rt, "served", served);
     let record = finished(driver, seats, server, poster)?;
-    same(&rt, "entries of who has posted", entries_of(&record, 0), 1);
-    same(&rt, "entries of who has served", entries_of(&record, 1), 0);
+    same(
+        &rt,
+        "entries of who has posted",
+        entries_of(rt.alloc(), &record, 0)?,
+        1,
+    );
+    same(
+        &rt,
+        "entries of who has served",
+        entries_of(rt.alloc(), &record, 1)?,
+        0,
+    );
     Ok(())
 }
 
@@ -261,6 +272,11 @@ fn one_thread(rt: HostRuntime) -> Result<(), Fail> {
     holds(&rt, "nothing to collect", !collected);
     holds(&rt, "served", served);
     let record = finished(driver, seats, server, poster)?;
-    same(&rt, "entries of who has posted", entries_of(&record, 0), 1);
+    same(
+        &rt,
+        "entries of who has posted",
+        entries_of(rt.alloc(), &record, 0)?,
+        1,
+    );
     Ok(())
 }

@@ -5,7 +5,8 @@ ghost use Rattle.std.specs.Prelude.{◌≡◌, All, IfOk};
 use crate::same::{holds, same};
 use bd_audit::replay;
 use bd_driver::{Driver, Outcome, Seat};
-use bd_space::{Record, Request};
+use bd_space::Request;
+use bd_spelling::Record;
 use bd_uapi::{Fault, MOST_SEATS};
 use std::alloc::{AllocError, Global};
 use std::process::Abort;
@@ -133,13 +134,9 @@ fn seats_of(alloc: Global, driver: &Driver, parts: Vec<Part>) -> Result<Vec<Seat
     Ok(seats)
 }
 
-pub(crate) fn entries_of(record: &Record, seat: u32) -> usize {
-    record
-        .entries
-        .as_slice()
-        .iter()
-        .filter(|entry| entry.seat == seat)
-        .count()
+pub(crate) fn entries_of(alloc: Global, record: &Record, seat: u32) -> Result<usize, AllocError> {
+    let entries = record.entries.copied(alloc)?;
+    Ok(entries.iter().filter(|entry| entry.seat == seat).count())
 }
 
 // The record is a history, in which each seat has as many entries as its thread counted.
@@ -155,7 +152,12 @@ fn see_record(
     same(rt, "seats", counts.len(), MOST_SEATS as usize);
     for (seat, count) in (0..MOST_SEATS).zip(counts) {
         same(rt, "requests", *count, REQUESTS);
-        same(rt, "entries", entries_of(record, seat), *count as usize);
+        same(
+            rt,
+            "entries",
+            entries_of(rt.alloc(), record, seat)?,
+            *count as usize,
+        );
     }
     Ok(())
 }

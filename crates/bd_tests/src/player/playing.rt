@@ -2,12 +2,13 @@
 
 ghost use Rattle.std.specs.Prelude.{IfOk};
 ghost use Rattle.bd_uapi.specs.Limits.{IsSeats};
-ghost use Rattle.bd_space.specs.Histories.{IsHistory, history_in};
+ghost use Rattle.bd_space.specs.Histories.{IsHistory};
+ghost use Rattle.bd_spelling.specs.Records.{history_in};
 
 use crate::same::same;
 use bd_audit::replay;
 use bd_player::{check_journal, play, write_journal};
-use bd_space::Record;
+use bd_spelling::Record;
 use bd_uapi::MOST_SEATS;
 use std::alloc::Global;
 use std::process::Abort;

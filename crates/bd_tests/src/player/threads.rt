@@ -7,7 +7,7 @@ use super::playing::Printed;
 use crate::same::{holds, same};
 use bd_audit::replay;
 use bd_player::{Said, TURNS as TURNS_USED, Told, gather, laid, play_threads, print_told};
-use bd_space::Record;
+use bd_spelling::Record;
 use bd_uapi::MOST_SEATS;
 use std::alloc::{AllocError, Global};
 use std::process::Abort;
@@ -59,7 +59,8 @@ fn places_told(alloc: Global, text: &str, seat: usize) -> Result<Vec<usize>, Fai
 // The places at which a seat's entries stand.
 fn places_of(alloc: Global, history: &Record, seat: usize) -> Result<Vec<usize>, AllocError> {
     let mut places = Vec::new(alloc);
-    for (place, entry) in history.entries.as_slice().iter().enumerate() {
+    let entries = history.entries.copied(alloc)?;
+    for (place, entry) in entries.iter().enumerate() {
         if entry.seat as usize == seat {
             places.push(place)?;
         }
@@ -79,7 +80,7 @@ fn see_history(
         return Err(Fail::from("another number of seats"));
     }
     replay(rt.alloc(), history)?;
-    let steps = history.entries.as_slice().len();
+    let steps = history.entries.len();
     same(rt, "steps", steps, seats as usize * CALLS);
     Ok(())
 }

@@ -8,7 +8,7 @@ use bd_player::{
     tell, write_journal,
 };
 use bd_script::Reason;
-use bd_space::Record;
+use bd_spelling::Record;
 use std::alloc::Global;
 use std::io;
 use std::io::{ErrorKind, Write};
@@ -153,7 +153,7 @@ fn goes_on_after_a_line_that_is_lost(rt: HostRuntime) -> Result<(), Fail> {
     let prints = "2: opened 0 1\n4: wrote 4 2 3\n5: opened 3 4\n";
     printed.expect(&rt, "a line is lost", prints, "", FAULT);
     let history = history.ok_or("a script with no bad line runs")?;
-    same(&rt, "steps", history.entries.as_slice().len(), 4);
+    same(&rt, "steps", history.entries.len(), 4);
     Ok(())
 }
 

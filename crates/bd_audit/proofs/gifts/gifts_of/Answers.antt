@@ -1,5 +1,5 @@
-use Rattle.bd_laws.proofs.words.Logic.{rules, arith, ◌≡◌, [], ◌∷◌, ◌++◌, None, subst, sym, err_from_is_err_and}
-use Rattle.bd_space.specs.Histories.{History, history_in}
+use Rattle.bd_laws.proofs.words.Logic.{rules, arith, ◌≡◌, [], ◌∷◌, ◌++◌, None, refl, subst, sym, err_from_is_err_and}
+use Rattle.bd_space.specs.Histories.{History}
 use Rattle.bd_audit.specs.GiftSearch.{AreGifts}
 use Rattle.bd_audit.proofs.Beginnings.{all_played, next_beginning, next_lawful}
 use Rattle.bd_audit.proofs.NamesHaveGiftChains.GiftSteps.{receiver_there, gifts_same, gifts_more}
@@ -8,13 +8,13 @@ use Rattle.bd_audit.proofs.gifts.gifts_of.Goals.{in-Some+else-is_err, in_default
 
 pub next_gift-requires-clause-lawful : goal.next_gift-requires-clause-lawful
 next_gift-requires-clause-lawful c =
-    next_lawful (history_in c.args.history.now) c.loop-entry.engine c.loop-entry.entry-index c.entry-item.result c.as_slice-entry-items.result.now c.requires.lawful
-    c.loop-entry.invariant.engine c.as_slice-entry-items.ensures c.loop-entry-test.true c.entry-item.is
+    next_lawful (record { seats = c.args.seats; entries = c.args.entries.now }) c.loop-entry.engine c.loop-entry.entry-index c.entry-item.result c.args.entries.now c.requires.lawful
+    c.loop-entry.invariant.engine refl c.loop-entry-test.true c.entry-item.is
 
 pub next_gift-requires-clause-receiver : goal.next_gift-requires-clause-receiver
 next_gift-requires-clause-receiver c =
-    receiver_there (history_in c.args.history.now) c.loop-entry.engine c.loop-entry.entry-index c.entry-item.result c.as_slice-entry-items.result.now c.args.receivers.now c.len.result
-    c.requires.receivers c.loop-entry.invariant.engine c.as_slice-entry-items.ensures c.loop-entry-test.true c.entry-item.is c.len.ensures
+    receiver_there (record { seats = c.args.seats; entries = c.args.entries.now }) c.loop-entry.engine c.loop-entry.entry-index c.entry-item.result c.args.entries.now c.args.receivers.now c.len.result
+    c.requires.receivers c.loop-entry.invariant.engine refl c.loop-entry-test.true c.entry-item.is c.len.ensures
 
 pub loop-entry-preserved : goal.loop-entry-preserved
 loop-entry-preserved c =
@@ -22,8 +22,8 @@ loop-entry-preserved c =
     let k = c.next_gift.new.engine in
     let gs = c.loop-entry.gifts.items in
     record {
-      engine = next_beginning (history_in c.args.history.now) h k c.loop-entry.entry-index c.entry-item.result c.as_slice-entry-items.result.now
-          c.loop-entry.invariant.engine c.as_slice-entry-items.ensures c.loop-entry-test.true c.entry-item.is c.in_ok-gift.ensures.ok;
+      engine = next_beginning (record { seats = c.args.seats; entries = c.args.entries.now }) h k c.loop-entry.entry-index c.entry-item.result c.args.entries.now
+          c.loop-entry.invariant.engine refl c.loop-entry-test.true c.entry-item.is c.in_ok-gift.ensures.ok;
       gifts = elim c.match-branch-2.branch [
         | in-Some+else-is_err w ↦ (
             let g = w.in-Some.gift in
@@ -45,5 +45,5 @@ returns-in_err-gift c =
 pub returns : goal.returns
 returns c =
     let done = c.loop-entry-test.false in
-    let played = all_played (history_in c.args.history.now) c.loop-entry.engine c.loop-entry.entry-index c.as_slice-entry-items.result.now c.loop-entry.invariant.engine c.as_slice-entry-items.ensures (omega arith) in
+    let played = all_played (record { seats = c.args.seats; entries = c.args.entries.now }) c.loop-entry.engine c.loop-entry.entry-index c.args.entries.now c.loop-entry.invariant.engine refl (omega arith) in
     subst (λ (h : History). AreGifts h.entries c.args.object c.loop-entry.gifts.items) played c.loop-entry.invariant.gifts

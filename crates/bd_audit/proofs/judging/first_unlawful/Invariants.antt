@@ -1,7 +1,10 @@
-use Rattle.std.proofs.Common.{◌≡◌, take}
-use Rattle.bd_space.specs.Histories.{history_of}
-use Rattle.bd_audit.specs.{Judging.{HasJudged}}
+use Rattle.std.proofs.Common.{◌≡◌, drop}
+use Rattle.bd_spelling.specs.Records.{history_in}
+use Rattle.bd_audit.specs.{Judging.{HasJudged}, Replays.{beginning}}
 use Rattle.bd_audit.proofs.judging.first_unlawful.Given as goal
 
-abbrev pub invariant-loop-entry : goal.invariant-loop-entry
-invariant-loop-entry g l = HasJudged l.judge (history_of l.fn.seats (take l.entry-index l.fn.entries)) × (l.done ≡ l.entry-index)
+abbrev pub invariant-loop-done : goal.invariant-loop-done
+invariant-loop-done g l = record {
+  judged : HasJudged l.judge (beginning l.done (history_in l.fn.record));
+  rest : l.entries ≡ drop l.done l.fn.record.entries;
+}

@@ -1,5 +1,5 @@
 use Rattle.std.proofs.Common.{◌∙◌, sym}
-use Rattle.bd_space.specs.Histories.{history_in}
+use Rattle.bd_spelling.specs.Records.{history_in}
 use Rattle.bd_audit.proofs.Beginnings.{take_history}
 use Rattle.bd_audit.proofs.ReplyCalls.{closed_some, closed_none, past_closed}
 use Rattle.bd_audit.proofs.replies.call_closed_at.Goals as goal
@@ -10,13 +10,13 @@ entry_at-requires-clause-before c = take_history c.args.place (history_in c.args
 pub returns-in-Some-innermost : goal.returns-in-Some-innermost
 returns-in-Some-innermost c =
     let at = rw c.in-Some.is at c.in_ok-engine.ensures.found in
-    closed_some (history_in c.args.record.now) c.in-Some.engine c.args.place c.in-Some.entry.now c.in-Some-innermost.made _ at.begins at.stands
+    closed_some (history_in c.args.record.now) c.in-Some.engine c.args.place c.in-Some.entry c.in-Some-innermost.made _ at.begins at.stands
     (sym c.in-Some-innermost.is ∙ c.innermost.ensures)
 
 pub returns-in-Some : goal.returns-in-Some
 returns-in-Some c =
     let at = rw c.in-Some.is at c.in_ok-engine.ensures.found in
-    closed_none (history_in c.args.record.now) c.in-Some.engine c.args.place c.in-Some.entry.now at.begins at.stands
+    closed_none (history_in c.args.record.now) c.in-Some.engine c.args.place c.in-Some.entry at.begins at.stands
     (sym c.in-None-innermost.is ∙ c.innermost.ensures)
 
 pub returns : goal.returns

@@ -1,6 +1,6 @@
 use Rattle.std.proofs.Common.{◌∙◌, sym}
 use Rattle.std.specs.Prelude.{None}
-use Rattle.bd_space.specs.Histories.{history_in}
+use Rattle.bd_spelling.specs.Records.{history_in}
 use Rattle.bd_audit.specs.Replies.{call_closed_at, call_answered}
 use Rattle.bd_audit.proofs.CallsOfReadings.{answers_call, answers_known}
 use Rattle.bd_audit.proofs.ReplyCalls.{by_name, answered_some, answered_none}

@@ -1,5 +1,6 @@
 use Rattle.bd_laws.proofs.words.Logic.{◌∙◌, refl, sym, ap, subst, arith, err_from_is_err_and}
-use Rattle.bd_space.specs.Histories.{History, history_in}
+use Rattle.bd_space.specs.Histories.{History}
+use Rattle.bd_spelling.specs.Records.{history_in}
 use Rattle.bd_ways.specs.Words.{Identity}
 use Rattle.bd_audit.specs.TurnSearch.{turns_on}
 use Rattle.bd_audit.specs.TurnCalls.{AreTurns}
@@ -11,15 +12,15 @@ use Rattle.bd_audit.proofs.turns.oneway_turns.Goals as goal
 
 pub loop-entry-init : goal.loop-entry-init
 loop-entry-init c = record {
-  engine = c.in-Ok.ensures.ok;
-  turns = c.new-turns.ensures.items ∙ sym (ap (λ (h : History). turns_on c.from-object.result h) c.in-Ok.ensures.ok ∙ turns_none c.from-object.result c.args.record.now.seats);
+  engine = c.in-Ok-new.ensures.ok;
+  turns = c.new-turns.ensures.items ∙ sym (ap (λ (h : History). turns_on c.from-object.result h) c.in-Ok-new.ensures.ok ∙ turns_none c.from-object.result c.args.record.now.seats);
   ended = refl;
 }
 
 pub advance-requires : goal.advance-requires
 advance-requires c = record {
-  lawful = next_lawful (history_in c.args.record.now) c.loop-entry.engine c.loop-entry.entry-index c.entry-item.result c.as_slice-entry-items.result.now c.requires.lawful
-      c.loop-entry.invariant.engine c.as_slice-entry-items.ensures c.loop-entry-test.true c.entry-item.is;
+  lawful = next_lawful (history_in c.args.record.now) c.loop-entry.engine c.loop-entry.entry-index c.entry-item.result c.deref-entry-items.result.now c.requires.lawful
+      c.loop-entry.invariant.engine (c.deref-entry-items.ensures.value ∙ c.in-Ok.ensures.copied) c.loop-entry-test.true c.entry-item.is;
 }
 
 pub note-requires : goal.note-requires
@@ -29,8 +30,8 @@ note-requires c =
 
 pub loop-entry-preserved : goal.loop-entry-preserved
 loop-entry-preserved c = record {
-  engine = next_beginning (history_in c.args.record.now) c.loop-entry.engine c.advance.new.engine c.loop-entry.entry-index c.entry-item.result c.as_slice-entry-items.result.now
-      c.loop-entry.invariant.engine c.as_slice-entry-items.ensures c.loop-entry-test.true c.entry-item.is c.in_ok-advance.ensures.ok;
+  engine = next_beginning (history_in c.args.record.now) c.loop-entry.engine c.advance.new.engine c.loop-entry.entry-index c.entry-item.result c.deref-entry-items.result.now
+      c.loop-entry.invariant.engine (c.deref-entry-items.ensures.value ∙ c.in-Ok.ensures.copied) c.loop-entry-test.true c.entry-item.is c.in_ok-advance.ensures.ok;
   turns = turns_noted c.from-object.result c.loop-entry.engine c.advance.new.engine c.entry-item.result c.len-place.result c.loop-entry.list.turns.items c.note.new.list.turns.items
       c.in_ok-advance.ensures.ok c.len-place.ensures c.loop-entry.invariant.turns c.in_ok-note.ensures.ok;
   ended = c.in_ok-note.ensures.ended;
@@ -41,7 +42,7 @@ returns c =
     let h = history_in c.args.record.now in
     let o = c.from-object.result in
     let done = c.loop-entry-test.false in
-    let played = all_played h c.loop-entry.engine c.loop-entry.entry-index c.as_slice-entry-items.result.now c.loop-entry.invariant.engine c.as_slice-entry-items.ensures (omega arith) in
+    let played = all_played h c.loop-entry.engine c.loop-entry.entry-index c.deref-entry-items.result.now c.loop-entry.invariant.engine (c.deref-entry-items.ensures.value ∙ c.in-Ok.ensures.copied) (omega arith) in
     subst (λ (x : Identity). AreTurns h.entries x c.loop-entry.list.turns.items) c.from-object.ensures
     (subst (λ ts. AreTurns h.entries o ts) (sym (c.loop-entry.invariant.turns ∙ ap (λ (g : History). turns_on o g) played)) (turns_are h o))
 

@@ -1,5 +1,5 @@
 use Rattle.bd_laws.proofs.words.Logic.{◌≡◌, true, take, list_all}
-use Rattle.bd_space.specs.Histories.{history_in}
+use Rattle.bd_spelling.specs.Records.{history_in}
 use Rattle.bd_audit.specs.Replays.{beginning}
 use Rattle.bd_audit.specs.TurnSearch.{turns_on, has_ended}
 use Rattle.bd_audit.proofs.turns.oneway_turns.Given as goal

@@ -1,5 +1,5 @@
 use Rattle.std.proofs.Common.{subst, arith, [], Option, List, ℕ}
-use Rattle.bd_space.specs.declared.record.Record.{Record}
+use Rattle.bd_spelling.specs.declared.record.Record.{Record}
 use Rattle.bd_spelling.specs.Reading.{Gives}
 use Rattle.bd_journal.proofs.Cuts.{is_found, seats_found, goes_on, is_told, whole_told}
 use Rattle.bd_journal.proofs.Unread.{uncut}

@@ -1,5 +1,5 @@
 use Rattle.std.proofs.Common.{◌≡◌, All}
-use Rattle.bd_space.specs.Histories.{history_in}
+use Rattle.bd_spelling.specs.Records.{history_in}
 use Rattle.bd_audit.specs.Replays.{beginning}
 use Rattle.bd_player.specs.Certified.{IsGiftOf, Rise}
 use Rattle.bd_player.proofs.Gifts.{AreSoFar}

@@ -1,5 +1,5 @@
 use Rattle.std.proofs.Common.{rules, List, ℕ, subst}
-use Rattle.bd_space.specs.Histories.{history_in}
+use Rattle.bd_spelling.specs.Records.{history_in}
 use Rattle.bd_player.specs.Certified.{AreGiftsAt, Rise}
 use Rattle.bd_player.proofs.Gifts.{chain_told}
 use Rattle.bd_player.proofs.certificates.gifts_of.Goals as goal

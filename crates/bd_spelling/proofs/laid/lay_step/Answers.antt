@@ -1,4 +1,4 @@
-use Rattle.std.proofs.Common.{ap, ◌∙◌, List, ℕ, ◌∷◌, ◌++◌}
+use Rattle.std.proofs.Common.{ap, List, ℕ, ◌∷◌, ◌++◌}
 use Rattle.bd_spelling.specs.Spelling.{block, parcel_bytes}
 use Rattle.bd_spelling.proofs.Laying.{laid_then, laid_as}
 use Rattle.bd_spelling.proofs.laid.lay_step.Goals as goal
@@ -11,7 +11,7 @@ returns-in-Attach c = rw c.in-Attach.is (laid_then _ _ _ _ _ _ _ _ c.lay-at-in-A
 
 pub returns-in-Command : goal.returns-in-Command
 returns-in-Command c =
-    let spelled = c.as_slice.ensures ∙ c.spell_command.ensures.spelled in
+    let spelled = (rw c.in-Command.is at c.requires.command).0 in
     rw c.in-Command.is (laid_as _ _ _ _ _ _ (ap (λ (t : List ℕ). 3 ∷ block t ++ parcel_bytes c.in-Command.parcel) spelled)
     (laid_then _ _ _ _ _ _ _ _ c.lay-at-in-Command.ensures (laid_then _ _ _ _ _ _ _ _ c.lay_block-at.ensures c.lay_parcel.ensures)))
 

@@ -1,4 +1,4 @@
-use Rattle.bd_space.specs.Histories.{history_in}
+use Rattle.bd_spelling.specs.Records.{history_in}
 use Rattle.bd_audit.proofs.Beginnings.{take_history}
 use Rattle.bd_tests.proofs.audit.given_in.Goals as goal
 

@@ -1,4 +1,4 @@
-use Rattle.std.proofs.Common.{◌≡◌, [], rules, ap, ◌∙◌}
+use Rattle.std.proofs.Common.{[], rules, ap, ◌∙◌}
 use Rattle.bd_space.specs.Histories.{History}
 use Rattle.bd_driver.specs.States.{DriverState}
 use Rattle.bd_driver.specs.Steps.{Hands}
@@ -26,5 +26,5 @@ returns c = record {
       let vs = ap (λ (m : Hands). m.0) c.gather.ensures.keeper.1 in
       let h = ends_at _ _ _ _ c.args.seats.items _ _ _ key vs c.close_with-closed.ensures.values.2 c.take-slot.ensures.value c.gather.ensures.idle all in
       absurd (c.in_default.not-Home _ h.1);
-  lawful = let none : c.new-in_default.result ≡ [] = cc in no_history 0 c.new-in_default.result none;
+  lawful = no_history 0 c.none.result c.none.ensures;
 }
