@@ -79,10 +79,18 @@ static void check_child(const struct binder_transaction_data *call, size_t index
     CHECK(*(const uint8_t *)(uintptr_t)pointer == 'a' + index, "%s: another buffer than that of object %zu", wanted->what, index);
 }
 
+/* The reply's buffer stays, so that no parcel that comes lies at the front of the window. */
+static void hold_front(struct looper *looper, uint32_t handle)
+{
+    struct binder_transaction_data reply;
+    CHECK(raw_call(looper, (struct call){.handle = handle}, &reply) == BR_REPLY, "no reply");
+}
+
 static void serve(struct looper *looper, const struct binder_transaction_data *call)
 {
     struct writer writer = {0};
     if (call->code == GIVE) {
+        hold_front(looper, raw_keep(looper, call));
         write_own_object(&writer, 0x1000, 0x1000);
         struct binder_transaction_data answer = record_of(&writer);
         CHECK(looper_answer(looper, &answer, 0), "can't answer");
@@ -157,13 +165,15 @@ static void play(struct client *client, uint32_t handle, uint32_t index, int des
 int main(void)
 {
     struct client client;
+    struct writer writer = {0};
     struct binder_transaction_data reply;
     uint32_t count = sizeof cases / sizeof *cases;
     int descriptor = open("/dev/null", O_RDONLY | O_CLOEXEC);
     raw_begin(30);
     pid_t manager = raw_start_manager(serve);
     raw_open(&client, WINDOW, NULL);
-    CHECK(raw_call(&client.looper, (struct call){.code = GIVE}, &reply) == BR_REPLY, "no object came");
+    write_own_object(&writer, 0x2000, 0x2000);
+    CHECK(raw_call_with(&client.looper, (struct call){.code = GIVE}, &writer, &reply) == BR_REPLY, "no object came");
     uint32_t handle = raw_keep(&client.looper, &reply);
     looper_free(&client.looper, &reply);
     for (uint32_t i = 0; i < count; i++)

@@ -1,7 +1,7 @@
 /* SPDX-License-Identifier: Apache-2.0 OR MIT */
 /*
- * leftovers: no byte of an earlier parcel goes on with a later one. A secret is sent, and then a parcel whose buffer of one byte leaves
- * much of the room that was asked for; its receiver looks behind that byte. And the sender looks at its page, which the daemon
+ * leftovers: no byte of an earlier parcel goes on with a later one. A secret is sent, as data and as a buffer, and then a parcel whose buffer
+ * of one byte leaves much of the room that was asked for; its receiver looks behind that byte. And the sender looks at its page, which the daemon
  * copies from: there is nothing left in what belongs to the parcel. What was sent with TF_CLEAR_BUF has gone from the receiver's
  * window once its buffer is given back, and nothing beside it has.
  */
@@ -141,13 +141,16 @@ int main(void)
     static uint8_t secret[SECRETS];
     struct client client;
     struct binder_transaction_data reply;
-    struct writer writer = {0};
+    struct writer writer = {0}, earlier = {0};
     raw_begin(30);
     pid_t manager = raw_start(run_manager, NULL);
     raw_open(&client, WINDOW, NULL);
     memset(secret, SECRET, sizeof secret);
     clears(&client, secret);
     raw_ask(&client.looper, (struct call){.code = KEEP, .bytes = secret, .size = sizeof secret});
+    write_buffer(&earlier, secret, sizeof secret, -1, 0);
+    CHECK(raw_call_with(&client.looper, (struct call){.code = KEEP}, &earlier, &reply) == BR_REPLY, "the secret isn't taken");
+    looper_free(&client.looper, &reply);
     write_buffer(&writer, "1", 1, -1, 0);
     writer.buffers = ROOM;
     size_t behind = writer.size + sizeof(binder_size_t);
