@@ -323,6 +323,8 @@ bool log_open(const char *path, bool verbose);
 void log_close(void);
 /* An event that only `-v` shows. */
 void log_event(const char *format, ...) __attribute__((format(printf, 1, 2)));
+/* A line that is left out where the log would have to be waited for: what a client can bring about on a device's thread. */
+void log_line_at_once(const char *format, ...) __attribute__((format(printf, 1, 2)));
 /* A line that is always shown. */
 void log_line(const char *format, ...) __attribute__((format(printf, 1, 2)));
 
