@@ -44,6 +44,7 @@ struct engine *engine_new(struct daemon *daemon, struct device *device)
     list_begin(&engine->resting);
     list_begin(&engine->reached);
     list_begin(&engine->reached_threads);
+    list_begin(&engine->deferring);
     for (size_t i = 0; i < sizeof engine->by_pid / sizeof *engine->by_pid; i++)
         list_begin(&engine->by_pid[i]);
     if (!ring_make(&engine->ring, engine->device, daemon->seats))
