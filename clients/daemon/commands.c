@@ -140,7 +140,10 @@ static int run_call(struct run *run, uint32_t code, const uint8_t *payload)
     if (!owed_take(run->thread))
         return ENOMEM;
     parcel.tells_euid = parcel.euid != process->euid;
-    memcpy(&record, payload, _IOC_SIZE(code));
+    if (code == BC_TRANSACTION || code == BC_REPLY)
+        memcpy(&record.transaction_data, payload, sizeof record.transaction_data);
+    else
+        memcpy(&record, payload, sizeof record);
     if (!is_reply && calls_own_manager(run, &record.transaction_data))
         record.transaction_data.target.handle = NO_HANDLE;
     parcel.may_have_descriptors = run->fd_count && reach_takes_descriptors(run->thread, is_reply, record.transaction_data.target.handle);
@@ -162,7 +165,7 @@ static int run_call(struct run *run, uint32_t code, const uint8_t *payload)
     if (sent && is_taken)
         sent_keep(&run->engine->sent, sent, run->engine->answer.from);
     else if (sent)
-        sent_free(sent);
+        sent_free(&run->engine->sent, sent);
     if (error)
         return error;
     note_call(run->thread, is_reply, record.transaction_data.flags & TF_ONE_WAY, &run->engine->answer);

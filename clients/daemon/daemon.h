@@ -323,6 +323,8 @@ bool log_open(const char *path, bool verbose);
 void log_close(void);
 /* An event that only `-v` shows. */
 void log_event(const char *format, ...) __attribute__((format(printf, 1, 2)));
+/* A line that is left out where the log would have to be waited for: what a client can bring about on a device's thread. */
+void log_line_at_once(const char *format, ...) __attribute__((format(printf, 1, 2)));
 /* A line that is always shown. */
 void log_line(const char *format, ...) __attribute__((format(printf, 1, 2)));
 
@@ -437,11 +439,14 @@ void ticket_end(struct tickets *tickets, uint64_t step);
 
 #define SENT_LISTS 16384u
 
-/* A call or reply whose buffer lives. */
+/* A call or reply whose buffer lives, and what a process has of the share of these. */
 struct sent;
+struct purse;
 
 struct sent_all {
     struct sent **heads; /* by the place of the step that has sent it */
+    struct sent *spare;  /* in no use */
+    uint32_t spare_count;
     uint64_t *ended;     /* room for the buffers that a step ends */
 };
 
@@ -452,7 +457,9 @@ bool sent_all_begin(struct sent_all *all);
 void sent_all_end(struct sent_all *all);
 /* For a parcel that the engine is to get; NULL where there is no memory, or it is over the sender's share. */
 struct sent *sent_new(struct process *process, const struct parcel *parcel);
-void sent_free(struct sent *sent);
+void sent_free(struct sent_all *all, struct sent *sent);
+/* The process sends nothing more. What it has sent counts in its share until its buffers end. */
+void purse_leave(struct process *process);
 /* The engine has it from this step on, until its buffer ends. */
 void sent_keep(struct sent_all *all, struct sent *sent, uint64_t step);
 /* Lets go of those, and of their descriptors, whose buffers have ended by the latest step. */
@@ -551,6 +558,8 @@ struct engine {
     bool has_read;            /* .. and whether one has emptied some */
     struct list reached;      /* processes that are to be looked at .. */
     struct list reached_threads; /* .. and threads */
+    struct list deferring;    /* callers that wait, whose list has the completion of their call still */
+    uint32_t deferring_count;
     struct list resting;      /* all processes with threads that wait for whatever comes to the process */
     struct list looked_at;    /* all threads that are looked at one by one (settle.c) */
     uint32_t resting_count, looked_at_count;
@@ -792,6 +801,7 @@ struct process {
     uint8_t *secret;      /* one bit for each: they are part of such a buffer, and are to be cleared with it */
     struct owned owned;
     struct kept kept;
+    struct purse *purse;  /* sent.c; NULL: it has sent nothing yet */
 };
 
 void process_accept(struct daemon *daemon, int fd);
@@ -870,7 +880,7 @@ struct thread {
     struct watch link, bell;
     uint32_t in_flight;        /* descriptors in the link that it may not have taken */
     struct process *process;
-    struct list in_process, in_watch, in_reached, in_polling, in_seatless;
+    struct list in_process, in_watch, in_reached, in_polling, in_seatless, in_deferring;
     bool is_counted;           /* among those that are looked at one by one */
     struct page *page;         /* PAGE_MAPPED bytes of it are mapped .. */
     int memory;                /* .. and the rest is read from here */
@@ -895,6 +905,7 @@ struct thread {
     bool is_waiting;           /* it waits in a read for something to come */
     bool has_no_room;          /* .. in which no return finds room, and there is one */
     bool defers;               /* .. after a call, whose completion waits for the reply */
+    bool has_reply;            /* .. and stands before something else on the thread's list, where that was left there */
     uint32_t room;             /* how many bytes of returns that read has room for */
     struct page_answer answer; /* what its request has come to so far */
 
@@ -927,8 +938,10 @@ struct landing *thread_landing(struct thread *thread);
 void page_rung(struct thread *thread);
 /* Lets go of a write that isn't done. */
 void page_forget(struct thread *thread);
-/* Answers the thread's request. */
-void page_answer(struct thread *thread, const uint8_t *returns, uint32_t size);
+/* Puts returns into the thread's page, at most PAGE_RETURNS bytes in all .. */
+void page_put(struct thread *thread, uint32_t at, const void *returns, uint32_t size);
+/* .. and answers its request with so many of them. */
+void page_answer(struct thread *thread, uint32_t size);
 /* Answers a request with an errno. */
 void page_interrupt(struct thread *thread, int error);
 /* The same where it waits for a seat: the descriptors that came with it are closed. Who has asked for nothing, and only
@@ -1033,6 +1046,12 @@ void sendings_end(struct thread *thread);
 /* Puts the thread where it belongs by what it waits for; follows each change of that. */
 void settle_watch(struct thread *thread);
 void settle_forget(struct thread *thread);
+/* The completion of its call isn't on the thread's list any more .. */
+void settle_defer_no_more(struct thread *thread);
+/* .. or is read now, since the thread doesn't wait for the reply any more. */
+void settle_interrupted(struct thread *thread);
+/* Whether there is something behind the completion that a thread has left on its list: the reply, or what it is told besides. */
+bool settle_has_reply(struct thread *thread);
 /* Nobody waits for what comes to the process any more. */
 void settle_end(struct process *process);
 /* Answers the reads that can be answered, and puts all doorbells right. Follows each request that makes steps; the

@@ -44,6 +44,7 @@ struct engine *engine_new(struct daemon *daemon, struct device *device)
     list_begin(&engine->resting);
     list_begin(&engine->reached);
     list_begin(&engine->reached_threads);
+    list_begin(&engine->deferring);
     for (size_t i = 0; i < sizeof engine->by_pid / sizeof *engine->by_pid; i++)
         list_begin(&engine->by_pid[i]);
     if (!ring_make(&engine->ring, engine->device, daemon->seats))
@@ -146,8 +147,8 @@ static void record(struct engine *engine, const struct step *step, uint64_t time
     const struct recording recording = recorder_look(engine->journal.recorder);
     const struct payer *payer = turns_count_recorded(&engine->loop.turns, 2 * size, &recording, time);
     if (payer)
-        log_line("%s: account %llu records more than its share of %llu MiB that are left, and has to wait", engine->journal.path,
-                 (unsigned long long)payer->account, (unsigned long long)recording.left >> 20);
+        log_line_at_once("%s: account %llu records more than its share of %llu MiB that are left, and has to wait", engine->journal.path,
+                         (unsigned long long)payer->account, (unsigned long long)recording.left >> 20);
 }
 
 /* Keeps what was done, for who asks later and who looks now. */

@@ -2,6 +2,7 @@
 /* log.c: what the daemon tells: on standard error, or in a file. */
 #include "daemon.h"
 
+#include <poll.h>
 #include <stdarg.h>
 #include <time.h>
 
@@ -42,6 +43,23 @@ static void write_line(const char *format, va_list rest)
 void log_event(const char *format, ...)
 {
     if (!is_verbose)
+        return;
+    va_list rest;
+    va_start(rest, format);
+    write_line(format, rest);
+    va_end(rest);
+}
+
+/* A pipe that nobody reads may be full. */
+static bool takes_line(void)
+{
+    struct pollfd log = {.fd = fileno(file ? file : stderr), .events = POLLOUT};
+    return poll(&log, 1, 0) == 1 && log.revents & POLLOUT;
+}
+
+void log_line_at_once(const char *format, ...)
+{
+    if (!takes_line())
         return;
     va_list rest;
     va_start(rest, format);

@@ -86,18 +86,24 @@ static void note_event(struct loop *loop, struct watch *watch)
     }
 }
 
+/* As epoll_wait, but that no thread can be cancelled there, for which libc takes as many instructions as for all else of a wait. */
+static int wait_whole(const struct loop *loop, struct epoll_event *events, int milliseconds)
+{
+    return (int)syscall(SYS_epoll_pwait, loop->epoll, events, EVENTS, milliseconds, NULL, 0);
+}
+
 /* Waits so many nanoseconds for events, a second at most; NO_TURN: for ever. Kernels before 5.11 wait for whole milliseconds. */
 static int wait_for(const struct loop *loop, struct epoll_event *events, uint64_t patience)
 {
     const struct timespec time = {.tv_nsec = (long)patience};
     if (!patience || patience == NO_TURN)
-        return epoll_wait(loop->epoll, events, EVENTS, patience ? -1 : 0);
+        return wait_whole(loop, events, patience ? -1 : 0);
     if (patience >= IDLE_NANOSECONDS)
-        return epoll_wait(loop->epoll, events, EVENTS, IDLE_NANOSECONDS / 1000000u);
+        return wait_whole(loop, events, IDLE_NANOSECONDS / 1000000u);
     int count = (int)syscall(SYS_epoll_pwait2, loop->epoll, events, EVENTS, &time, NULL, 0);
     if (count >= 0 || errno != ENOSYS)
         return count;
-    return epoll_wait(loop->epoll, events, EVENTS, (int)(patience / 1000000u) + 1);
+    return wait_whole(loop, events, (int)(patience / 1000000u) + 1);
 }
 
 /* Fetches all events that are there; how many these were, or -1. */

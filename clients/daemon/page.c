@@ -32,15 +32,18 @@ static void wake(struct thread *thread)
     }
 }
 
+void page_put(struct thread *thread, uint32_t at, const void *returns, uint32_t size)
+{
+    memcpy(thread->page->returns + at, returns, size);
+}
+
 /* The state is set and then it is looked how the client waits; there it's the other way round, so that one of the two sees the
    other. */
-void page_answer(struct thread *thread, const uint8_t *returns, uint32_t size)
+void page_answer(struct thread *thread, uint32_t size)
 {
     struct page *page = thread->page;
     thread->answer.returns_size = size;
     thread->answer.refused = thread->refusal != NOT_REFUSED;
-    if (size)
-        memcpy(page->returns, returns, size);
     page->answer = thread->answer;
     atomic_store(&page->state, PAGE_ANSWERED);
     wake(thread);
@@ -49,12 +52,13 @@ void page_answer(struct thread *thread, const uint8_t *returns, uint32_t size)
 static void answer_error(struct thread *thread, int error)
 {
     thread->answer.error = error;
-    page_answer(thread, NULL, 0);
+    page_answer(thread, 0);
 }
 
 void page_interrupt(struct thread *thread, int error)
 {
     thread->is_waiting = false;
+    settle_interrupted(thread);
     settle_watch(thread);
     settle_doorbell(thread); /* its read may have taken the completion of a call, which isn't handed over yet */
     answer_error(thread, error);
@@ -156,7 +160,8 @@ static int write_read(struct thread *thread, const struct page_request *request)
     int error = fetch_descriptors(thread, request->descriptors, writing.fds, &writing.fd_count);
     if (error)
         return error;
-    page_copy(writing.stream, thread->page->stream, request->stream_size);
+    if (request->stream_size)
+        page_copy(writing.stream, thread->page->stream, request->stream_size);
     return write_on(thread, &writing);
 }
 

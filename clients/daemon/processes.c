@@ -104,7 +104,8 @@ void process_clear_secret(struct process *process, uint64_t place)
     uint64_t end = place;
     for (; is_secret(process, end) && (end == place || process_handed(process, end) == NOT_HANDED); end += 8)
         process->secret[end / 64] &= (uint8_t)~(1u << end / 8 % 8);
-    memset(process->window.at + place, 0, end - place);
+    if (end > place)
+        memset(process->window.at + place, 0, end - place);
 }
 
 /* What is no errno: the process is no longer here, but its device's, whose thread answers; or nobody can tell who it is. */
@@ -577,6 +578,7 @@ static void let_go(struct process *process)
 {
     owned_free(process);
     kept_free(process);
+    purse_leave(process);
     list_remove(&process->in_engine);
     loop_drop(process->loop, &process->control);
     loop_drop(process->loop, &process->end);

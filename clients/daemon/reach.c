@@ -9,8 +9,9 @@
  * but who polls there, whose doorbell is put right as the read's returns are handed over (returns.c). But a list that was emptied and filled
  * again in between would be as it was, and wouldn't be named: so the next step that may fill one asks before it is made.
  *
- * A list that has something and gets more isn't named. Therefore nothing is left on the list of a thread that waits: what its call has
- * left there, which it is to be told together with the reply, is read at once and waits in the daemon (settle.c).
+ * A list that has something and gets more isn't named either. Therefore nothing is left on the list of a thread that waits but for some
+ * callers the completion of their call, which they are to be told together with the reply. Each of these is looked at as often as the engine
+ * is asked; of others it is read at once, and waits in the daemon (settle.c).
  */
 #include "daemon.h"
 
@@ -53,11 +54,20 @@ static void reach_list(struct engine *engine, const hullpippin_todo_list *list)
         reach_all(engine);
 }
 
+/* Those whose list had something before, and so isn't named. */
+static void reach_deferring(struct engine *engine)
+{
+    for (struct list *entry = engine->deferring.next; entry != &engine->deferring; entry = entry->next) {
+        struct thread *thread = container_of(entry, struct thread, in_deferring);
+        if (settle_has_reply(thread))
+            reach_thread(thread);
+    }
+}
+
 static void ask(struct engine *engine)
 {
     hullpippin_todo_list list;
     size_t count = 0;
-    engine->unasked = 0;
     engine->has_read = false;
     if (hullpippin_live_ask_reached(&engine->live, &count) != HULLPIPPIN_DONE)
         reach_all(engine); /* without memory the lists are told the next time */
@@ -65,6 +75,15 @@ static void ask(struct engine *engine)
         reach_list(engine, &list);
 }
 
+/* After it nobody is ready, by the steps that were made, who isn't to be looked at. */
+static void ask_for_all(struct engine *engine)
+{
+    engine->unasked = 0;
+    ask(engine);
+    reach_deferring(engine);
+}
+
+/* Whatever comes of the step, callers are looked at behind it. */
 void reach_before_step(struct engine *engine, bool is_read)
 {
     if (!is_read && engine->has_read)
@@ -73,16 +92,18 @@ void reach_before_step(struct engine *engine, bool is_read)
 
 void reach_after_step(struct engine *engine, uint32_t seat, bool is_read)
 {
-    if (is_read)
+    if (is_read) { /* who has had it read looks at what it has got */
         engine->has_read = true;
-    else if (++engine->unasked >= UNASKED_MOST)
-        ask(engine);
+        return;
+    }
+    if (++engine->unasked >= UNASKED_MOST)
+        ask_for_all(engine);
     reach_thread(engine->lent[seat]);
 }
 
 bool reach_ask(struct engine *engine)
 {
-    ask(engine);
+    ask_for_all(engine);
     return !list_is_empty(&engine->reached_threads) || !list_is_empty(&engine->reached);
 }
 

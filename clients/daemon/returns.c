@@ -89,6 +89,7 @@ static int fetch(struct thread *thread, uint32_t limit)
         thread->clearings = 0; /* nothing is left to be read of it */
     if (error || engine->answer.kind != HULLPIPPIN_GOT)
         return error ? error : EAGAIN;
+    settle_defer_no_more(thread);
     for (uint32_t at = 0; at + sizeof(uint32_t) <= engine->returns_size;) {
         uint32_t code;
         memcpy(&code, engine->returns + at, sizeof code);
@@ -230,16 +231,16 @@ static bool has_more(const struct thread *thread)
    right before. */
 void returns_deliver(struct thread *thread)
 {
-    uint8_t returns[PAGE_RETURNS];
     uint32_t first = BR_NOOP, size = 0;
     if (thread->room >= sizeof first) {
         take_cleared(thread);
         size = fitting(thread, thread->room - sizeof first);
         first = wants_looper(thread) ? BR_SPAWN_LOOPER : BR_NOOP;
-        memcpy(returns, &first, sizeof first);
-        memcpy(returns + sizeof first, thread->pending, size);
+        page_put(thread, 0, &first, sizeof first);
+        page_put(thread, sizeof first, thread->pending, size);
         thread->pending_size -= size;
-        memmove(thread->pending, thread->pending + size, thread->pending_size);
+        if (thread->pending_size)
+            memmove(thread->pending, thread->pending + size, thread->pending_size);
         size += sizeof first;
     }
     thread->is_prompt = thread->pending_size || (thread->is_prompt && has_more(thread));
@@ -247,7 +248,7 @@ void returns_deliver(struct thread *thread)
     settle_watch(thread);
     settle_doorbell(thread);
     settle_rung_doorbells(thread->process);
-    page_answer(thread, returns, size);
+    page_answer(thread, size);
 }
 
 void returns_clear(struct process *process, binder_uintptr_t cookie)

@@ -280,10 +280,21 @@ void ring_count_lent(struct ring *ring, uint32_t lent)
         set(&counts->most_lent, lent);
 }
 
+/* What a step doesn't tell is 0, but for the data. Field by field that takes half of what a call of memset does. */
+static void clear(struct ring_slot *slot)
+{
+    slot->seat = slot->pid = slot->tid = slot->process = 0;
+    slot->number = slot->kept = 0;
+    slot->command = slot->handle = slot->code = slot->flags = slot->other = 0;
+    slot->object_index = slot->euid = slot->limit = slot->returns = 0;
+    slot->data_size = slot->offsets_size = slot->buffer = slot->pointer = slot->cookie = 0;
+    memset(slot->comm, 0, sizeof slot->comm);
+}
+
 /* Fills all of a slot but its sequence. */
 static void fill(struct engine *engine, struct ring_slot *slot, const struct step *step, uint64_t time)
 {
-    memset(&slot->time, 0, offsetof(struct ring_slot, data) - offsetof(struct ring_slot, time));
+    clear(slot);
     slot->time = time;
     slot->place = engine->answer.from;
     slot->kind = (uint8_t)step->kind;

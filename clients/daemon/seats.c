@@ -31,6 +31,7 @@ static void take_away(struct thread *thread)
     thread->serving = thread->calling = thread->refusals = thread->completions = thread->untold = thread->clearings = 0;
     thread->refusal = NOT_REFUSED;
     sendings_end(thread);
+    settle_defer_no_more(thread);
     doorbell_set(thread, false);
     settle_watch(thread);
 }

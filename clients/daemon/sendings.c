@@ -192,6 +192,13 @@ static bool has_sent_for(struct sendings *sendings, struct sendings *other)
     return false;
 }
 
+/* It may wait, and have something to be told by that. */
+static void fetch_for(struct thread *thread)
+{
+    returns_fetch_sent(thread);
+    reach_thread(thread);
+}
+
 void sendings_gather(struct thread *thread)
 {
     struct list *senders = &thread->process->senders;
@@ -201,7 +208,7 @@ void sendings_gather(struct thread *thread)
     for (struct list *entry = senders->next; entry != senders && looked_at < SENDERS_MOST; entry = entry->next, looked_at++) {
         struct sendings *it = container_of(entry, struct sendings, in_process);
         if (it != thread->sendings && has_sent_for(it, thread->sendings))
-            returns_fetch_sent(it->thread);
+            fetch_for(it->thread);
     }
 }
 

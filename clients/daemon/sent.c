@@ -8,6 +8,11 @@
 
 #include <stdlib.h>
 
+/* A process's pieces are taken so many more at a time, and what it has no use for is kept up to twice as many: so few calls have to ask
+   what all share. So many records that are in no use are kept too. */
+#define PIECES_EACH 32u
+#define SPARE_MOST 256u
+
 /* What a call takes beside the bytes of its parcel is reckoned by pieces, of which each of its objects takes one more. */
 #define PIECE 1024u
 
@@ -17,9 +22,17 @@
 /* A thread's are taken so many at a time, so that few calls have to. */
 #define OWED_EACH 32u
 
+/* A process's share, as long as anything lives that it has sent. */
+struct purse {
+    struct account *account;
+    uint32_t spare;  /* pieces that are taken, and in no use */
+    uint32_t living; /* calls and replies */
+    bool is_left;    /* its process has ended */
+};
+
 struct sent {
     struct sent *next;
-    struct account *account;
+    struct purse *purse;
     uint64_t step;
     uint32_t pieces;
 };
@@ -31,24 +44,99 @@ bool sent_all_begin(struct sent_all *all)
     return all->heads && all->ended;
 }
 
+/* --- A process's share. --- */
+
+static struct purse *purse_of(struct process *process)
+{
+    if (!process->purse && (process->purse = malloc(sizeof *process->purse)))
+        *process->purse = (struct purse){.account = process->account};
+    return process->purse;
+}
+
+static bool take(struct purse *purse, uint32_t pieces)
+{
+    if (purse->spare < pieces) {
+        uint32_t more = pieces - purse->spare + PIECES_EACH;
+        if (!account_take(purse->account, SHARED_CALLS, more))
+            return false;
+        purse->spare += more;
+    }
+    purse->spare -= pieces;
+    purse->living++;
+    return true;
+}
+
+static void give(struct purse *purse, uint32_t pieces)
+{
+    uint32_t kept = purse->is_left ? 0 : PIECES_EACH;
+    purse->spare += pieces;
+    purse->living--;
+    if (purse->spare > 2 * kept) {
+        account_give(purse->account, SHARED_CALLS, purse->spare - kept);
+        purse->spare = kept;
+    }
+    if (purse->is_left && !purse->living)
+        free(purse);
+}
+
+void purse_leave(struct process *process)
+{
+    struct purse *purse = process->purse;
+    process->purse = NULL;
+    if (!purse)
+        return;
+    account_give(purse->account, SHARED_CALLS, purse->spare);
+    purse->spare = 0;
+    purse->is_left = true;
+    if (!purse->living)
+        free(purse);
+}
+
+/* --- What was sent. --- */
+
+static struct sent *new_sent(struct sent_all *all)
+{
+    struct sent *sent = all->spare;
+    if (!sent)
+        return malloc(sizeof *sent);
+    all->spare = sent->next;
+    all->spare_count--;
+    return sent;
+}
+
+static void let_go(struct sent_all *all, struct sent *sent)
+{
+    if (all->spare_count >= SPARE_MOST) {
+        free(sent);
+        return;
+    }
+    sent->next = all->spare;
+    all->spare = sent;
+    all->spare_count++;
+}
+
 struct sent *sent_new(struct process *process, const struct parcel *parcel)
 {
     uint64_t bytes = parcel->data_size + parcel->offsets_size, objects = parcel->offsets_size / sizeof(binder_size_t);
     bytes += parcel->ticket ? parcel->ticket->fixup_count * sizeof *parcel->ticket->fixups : 0;
     uint32_t pieces = (uint32_t)(1 + objects + bytes / PIECE);
-    struct sent *sent = malloc(sizeof *sent);
-    if (!sent || !account_take(process->account, SHARED_CALLS, pieces)) {
-        free(sent);
+    struct sent_all *all = &process->engine->sent;
+    struct purse *purse = purse_of(process);
+    struct sent *sent = purse ? new_sent(all) : NULL;
+    if (!sent)
+        return NULL;
+    if (!take(purse, pieces)) {
+        let_go(all, sent);
         return NULL;
     }
-    *sent = (struct sent){.account = process->account, .pieces = pieces};
+    *sent = (struct sent){.purse = purse, .pieces = pieces};
     return sent;
 }
 
-void sent_free(struct sent *sent)
+void sent_free(struct sent_all *all, struct sent *sent)
 {
-    account_give(sent->account, SHARED_CALLS, sent->pieces);
-    free(sent);
+    give(sent->purse, sent->pieces);
+    let_go(all, sent);
 }
 
 void sent_keep(struct sent_all *all, struct sent *sent, uint64_t step)
@@ -68,7 +156,7 @@ static void end(struct sent_all *all, uint64_t step)
     if (!sent)
         return;
     *at = sent->next;
-    sent_free(sent);
+    sent_free(all, sent);
 }
 
 void sent_see_ended(struct engine *engine)
@@ -86,6 +174,10 @@ void sent_all_end(struct sent_all *all)
     for (size_t i = 0; all->heads && i < SENT_LISTS; i++)
         while (all->heads[i])
             end(all, all->heads[i]->step);
+    for (struct sent *sent; (sent = all->spare);) {
+        all->spare = sent->next;
+        free(sent);
+    }
     free(all->heads);
     free(all->ended);
 }

@@ -52,9 +52,16 @@ static void leave(struct thread *thread)
     list_remove(&thread->in_watch);
 }
 
+void settle_defer_no_more(struct thread *thread)
+{
+    thread->process->engine->deferring_count -= !list_is_empty(&thread->in_deferring);
+    list_remove(&thread->in_deferring);
+}
+
 void settle_forget(struct thread *thread)
 {
     leave(thread);
+    settle_defer_no_more(thread);
     list_remove(&thread->in_reached);
     list_remove(&thread->in_polling);
     if (list_is_empty(&thread->process->idle))
@@ -130,6 +137,45 @@ void settle_rung_doorbells(struct process *process)
     }
 }
 
+/* --- Callers that leave the completion of their call where it is until the reply has come. --- */
+
+/* So many at a time: after each step these are looked at besides whom the engine names. */
+#define DEFERRING_MOST 2u
+
+bool settle_has_reply(struct thread *thread)
+{
+    hullpippin_work work;
+    return thread->has_reply = hullpippin_live_unread_of_thread(&thread->process->engine->live, thread->seat, 1, &work);
+}
+
+/* Reads it for one that can't leave it there any longer. Whether it is read. */
+static bool read_completion(struct thread *thread)
+{
+    returns_fetch_deferred(thread);
+    reach_thread(thread); /* what has come behind it wasn't named */
+    return list_is_empty(&thread->in_deferring);
+}
+
+/* Whether the thread's list keeps the completion of its call, and nothing else: that of who has done so for longest is read for it. */
+static bool defer(struct thread *thread)
+{
+    struct engine *engine = thread->process->engine;
+    if (thread->completions != 1 || thread->pending_size || thread->sendings || settle_has_reply(thread))
+        return false;
+    if (engine->deferring_count >= DEFERRING_MOST
+        && !read_completion(container_of(engine->deferring.next, struct thread, in_deferring)))
+        return false;
+    list_append(&engine->deferring, &thread->in_deferring);
+    engine->deferring_count++;
+    return true;
+}
+
+void settle_interrupted(struct thread *thread)
+{
+    if (!list_is_empty(&thread->in_deferring) && !thread->process->is_ending)
+        read_completion(thread);
+}
+
 /* --- Looking at those that wait. --- */
 
 /* Looks at one thread. Whether that has changed more than its doorbell. */
@@ -140,7 +186,7 @@ static bool look(struct thread *thread)
         return false;
     }
     bool is_whole = returns_are_there(thread) && !(thread->is_behind && returns_are_left(thread));
-    bool reads = !is_whole && is_ready(thread);
+    bool reads = !is_whole && (list_is_empty(&thread->in_deferring) ? is_ready(thread) : thread->has_reply);
     int error = reads ? returns_fetch(thread) : 0;
     if (error)
         page_interrupt(thread, error);
@@ -189,13 +235,22 @@ static void look_at_process(struct process *process)
 
 /* --- Those that all have to be looked at, some at a time: the first is looked at and goes last. --- */
 
+/* Looks at a thread, and has it looked at again if it has read and waits on. Whether it has read. */
+static bool look_and_go_on(struct thread *thread)
+{
+    bool has_changed = look(thread);
+    if (has_changed && thread->is_waiting)
+        reach_thread(thread);
+    return has_changed;
+}
+
 static bool look_at_next_thread(struct engine *engine, const struct thread *acting)
 {
     struct thread *thread = container_of(engine->looked_at.next, struct thread, in_watch);
     engine->looked_at_left--;
     list_remove(&thread->in_watch);
     list_append(&engine->looked_at, &thread->in_watch);
-    return thread != acting && look(thread);
+    return thread != acting && look_and_go_on(thread);
 }
 
 static bool look_at_next_process(struct engine *engine)
@@ -211,7 +266,7 @@ static bool look_at_next_process(struct engine *engine)
     return false;
 }
 
-/* The first that the engine has named. A thread that has read and waits on is looked at again. */
+/* The first that the engine has named. */
 static void look_at_first(struct engine *engine, const struct thread *acting)
 {
     if (list_is_empty(&engine->reached_threads)) {
@@ -220,8 +275,8 @@ static void look_at_first(struct engine *engine, const struct thread *acting)
     }
     struct thread *thread = container_of(engine->reached_threads.next, struct thread, in_reached);
     list_remove(&thread->in_reached);
-    if (thread != acting && look(thread) && thread->is_waiting)
-        reach_thread(thread);
+    if (thread != acting)
+        look_and_go_on(thread);
 }
 
 /* Those that the engine has named. Who is acting is looked at behind all others. */
@@ -276,7 +331,8 @@ void settle(struct engine *engine, struct thread *acting)
         if (engine->looked_at_left || engine->resting_left)
             look_at_some(engine, acting);
         if (looks && acting->is_waiting && acting->defers)
-            looks = has_something(acting);
+            looks = !defer(acting) && has_something(acting);
     } while (looks && look(acting));
-    look_at_reached(engine, NULL);
+    if (reach_is_left(engine))
+        look_at_reached(engine, NULL);
 }

@@ -121,6 +121,7 @@ static struct thread *new_thread(struct process *process, uint64_t tid, const st
     list_begin(&thread->in_reached);
     list_begin(&thread->in_polling);
     list_begin(&thread->in_seatless);
+    list_begin(&thread->in_deferring);
     process->thread_count++;
     return thread;
 }

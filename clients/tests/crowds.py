@@ -21,6 +21,8 @@ MOST_STEPS, MOST_WAIT = 64, 8
 HOSTILE_TIMES, IDLE_TIMES = 4, 2
 # looks of the daemon at others' threads, for each step
 MOST_LOOKS = 1.5
+# steps of a call without objects, of those for which some calls are counted beside fewer
+STEPS_OF_CALL, FEW_CALLS, MANY_CALLS = 7, 100, 600
 # the longest that a call may take while a thousand callers end, in microseconds
 MOST_ENDING = 20e3
 ROUNDS = 5
@@ -67,6 +69,19 @@ def turns(build):
         expect(found["waited"] <= MOST_WAIT, f"somebody waited for {found['waited']} turns beside {kind}")
         told.append(f"64 {kind}: {found['turns']} turns, the longest of {found['longest']} steps, at most {found['waited']} waited for")
     return "; ".join(told)
+
+
+@test("raw steps")
+def steps(build):
+    """Each side gives a buffer back, sends and reads: the call's completion is read along with its reply, the reply's by itself."""
+    made = []
+    for calls in (FEW_CALLS, MANY_CALLS):
+        with Stage(build) as stage:
+            stage.run([build.raw("latency"), str(calls)])
+            made.append(counts(stage)["steps"])
+    of_call = (made[1] - made[0]) / (MANY_CALLS - FEW_CALLS)
+    expect(abs(of_call - STEPS_OF_CALL) < 0.05, f"a call takes {of_call} steps")
+    return f"{of_call} steps a call"
 
 
 @contextlib.contextmanager

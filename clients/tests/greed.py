@@ -12,6 +12,8 @@ from suite import figures, test
 DEVICES = "/dev/binder", "/dev/hwbinder", "/dev/vndbinder"
 # bytes of address space that a daemon has, and KiB of memory of its own that it may have then
 LITTLE, LITTLE_KIB = 400 << 20, 200 << 10
+# with more address space a daemon has room for more windows than one may have; as large as they get, and the part of it that one may have
+ROOMY, WINDOW, PART_OF_WINDOWS = 1 << 30, 4 << 20, 4
 KINDS = "calls", "objects", "handles", "deaths", "threads", "windows"
 # more than anybody gets
 COUNT = "300000"
@@ -42,11 +44,13 @@ def greed(build):
     """With little memory the daemon goes on whatever one takes: it is refused, others are served, and its end is no other's."""
     told = []
     for kind in KINDS:
-        with Stage(build, under=["prlimit", f"--as={LITTLE}"]) as stage:
+        room = ROOMY if kind == "windows" else LITTLE
+        with Stage(build, under=["prlimit", f"--as={room}"]) as stage:
             serves(stage, build)
             files = open_files(stage.daemon.pid)
             greedy, taken = take_all(stage, build, kind)
             expect(0 < taken < 3 * int(COUNT), f"{kind}: {taken:.0f} were taken")
+            expect(kind != "windows" or taken * WINDOW <= room / PART_OF_WINDOWS, f"{taken:.0f} windows were taken")
             held = resident(stage.daemon.pid)
             expect(held < LITTLE_KIB, f"{kind}: the daemon has {held} KiB")
             stage.start([build.raw("opens")]).wait_for("ready").kill()
@@ -180,14 +184,17 @@ def device_time(pid, thread):
 @test("raw costly ends", plain_only=True)
 def costly(build):
     """What takes its time to be closed is closed by no thread that a client waits for."""
-    with Stage(build) as stage:
-        pid = stage.daemon.pid
-        before = set(os.listdir(f"/proc/{pid}/task"))
-        program = stage.start([build.fuzz("costly")], client=False).wait_for("ready", 30)
-        thread = max(set(os.listdir(f"/proc/{pid}/task")) - before, key=int)
-        used = device_time(pid, thread)
-        program.wait_for("left")
-        time.sleep(1)
-        took = device_time(pid, thread) - used
-        expect(took < LETTING_GO, f"the device's thread took {took * 1e3:.0f} ms to let go of what it was left")
-    return f"the device's thread took {took * 1e3:.1f} ms to let go of much memory, and of sockets with many connections"
+    told = []
+    for whose, words in (("the device's thread", []), ("that which takes connections", ["control"])):
+        with Stage(build) as stage:
+            pid = stage.daemon.pid
+            before = set(os.listdir(f"/proc/{pid}/task"))
+            program = stage.start([build.fuzz("costly"), *words], client=False).wait_for("ready", 30)
+            thread = pid if words else max(set(os.listdir(f"/proc/{pid}/task")) - before, key=int)
+            used = device_time(pid, thread)
+            program.wait_for("left")
+            time.sleep(1)
+            took = device_time(pid, thread) - used
+        expect(took < LETTING_GO, f"{whose} took {took * 1e3:.0f} ms to let go of what it was left")
+        told.append(f"{whose} took {took * 1e3:.1f} ms")
+    return f"{', '.join(told)} to let go of much memory, and of sockets with many connections"

@@ -335,7 +335,7 @@ class Reader(threading.Thread):
 
 # bytes that a recording may have, the part of them that an account may have each second, and how often that while it's looked at, since
 # nobody waits for longer than a second
-BOUND, PART, TIMES = 256 << 20, 1024, 3
+BOUND, PART, TIMES, LEAST_SHARE = 256 << 20, 1024, 3, 1 << 20
 
 
 def grown(stage, seconds):
@@ -364,6 +364,45 @@ def share(build):
     told = f"{had >> 20} MiB, then {each / 2**20:.1f} each second; {calls['calls']:.0f} calls of others meanwhile"
     expect(each <= TIMES * BOUND / PART and calls["calls"] > 0, told)
     return told
+
+
+@contextmanager
+def pipe_without_reader():
+    """A pipe that nobody reads: its path, and an end of it."""
+    with tempfile.TemporaryDirectory(prefix="hullpippin-log-") as folder:
+        path = f"{folder}/log"
+        os.mkfifo(path)
+        end = os.open(path, os.O_RDWR | os.O_NONBLOCK)
+        try:
+            yield path, end
+        finally:
+            os.close(end)
+
+
+def stuff(end):
+    """Fills such a pipe."""
+    while fill(end):
+        pass
+
+
+@test("raw unread share", plain_only=True)
+def unread_share(build):
+    """Nobody reads the log that is to tell who has had its share of a recording; others are served all the same."""
+    if os.geteuid():
+        return "nothing was seen: only root can become another user"
+    under = ["prlimit", f"--fsize={BOUND}"]
+    with pipe_without_reader() as (path, end), Stage(build, journal=DEVICE, wide=True, under=under, words=["--log", path]) as stage:
+        let_others_in(stage)
+        stuff(end)
+        stage.start([build.fuzz("rings"), "threads", "8", DEVICE, "4001"], client=False).wait_for("ready", 30)
+        patience = time.monotonic() + 90
+        while os.path.getsize(stage.journal) < LEAST_SHARE or grown(stage, 1) > TIMES * BOUND / PART:
+            expect(time.monotonic() < patience, f"nobody has to wait after {os.path.getsize(stage.journal)} bytes")
+        calls = figures(stage.run([build.fuzz("witness"), "2"], 30))["calls"]
+        stage.journal, stage.is_over = None, True
+        stage.daemon.kill()  # its last words would wait for a reader
+    expect(calls > 0, "nobody is served")
+    return f"{calls:.0f} calls of others meanwhile"
 
 
 def end_with(stage, status, seconds=30):
@@ -474,24 +513,16 @@ def uncounted_recording(build):
 @test("raw unread log")
 def unread_log(build):
     """Where nobody reads the log, clients don't wait while the recorder tells that the recording has broken off."""
-    with tempfile.TemporaryDirectory(prefix="hullpippin-log-") as folder:
-        path = f"{folder}/log"
-        os.mkfifo(path)
-        end = os.open(path, os.O_RDWR | os.O_NONBLOCK)
-        try:
-            with Stage(build, journal=DEVICE, words=["--log", path]) as stage:
-                while fill(end):
-                    pass
-                resource.prlimit(stage.daemon.pid, resource.RLIMIT_FSIZE, (FULL, FULL))
-                told = stage.run([build.raw(HEAVY[0]), *HEAVY[1:]], 30)
-                said = os.read(end, SLOW)
-                expect(b"broke off" not in said, "the log had room")
-                os.set_blocking(end, True)
-                while b"broke off" not in said:
-                    said = os.read(end, SLOW)
-                end_with(stage, 1)
-        finally:
-            os.close(end)
+    with pipe_without_reader() as (path, end), Stage(build, journal=DEVICE, words=["--log", path]) as stage:
+        stuff(end)
+        resource.prlimit(stage.daemon.pid, resource.RLIMIT_FSIZE, (FULL, FULL))
+        told = stage.run([build.raw(HEAVY[0]), *HEAVY[1:]], 30)
+        said = os.read(end, SLOW)
+        expect(b"broke off" not in said, "the log had room")
+        os.set_blocking(end, True)
+        while b"broke off" not in said:
+            said = os.read(end, SLOW)
+        end_with(stage, 1)
     return f"calls went on ({told})"
 
 

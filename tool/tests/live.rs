@@ -231,6 +231,26 @@ fn state() -> Vec<Vec<Vec<u8>>> {
             // Of a process that has come since.
             record(3, &[(PROCESS, 300), (HANDLE, 1), (OBJECT_PLACE, 4), (PARTY, 201)], ""),
         ],
+        shares(),
+    ]
+}
+
+/// An account of a slice with one user, of which the service and a process of another device have something; and what no kind is.
+fn shares() -> Vec<Vec<u8>> {
+    use told::*;
+    let slice = (OBJECT_PLACE, LATE + 77);
+    let user = [slice, (EUID, 2000)];
+    let service = [slice, (EUID, 2000), (PID, 9_000_200)];
+    let share = |whose: &[(usize, u64)], of, taken, refused| {
+        record(5, &[whose, &[(CODE, of), (MADE, taken), (INNERMOST, refused)]].concat(), "")
+    };
+    vec![
+        share(&service, 0, 9, 0),
+        share(&service, 3, LATE, 40),
+        share(&[slice, (EUID, 2000), (PID, 9_000_700)], 7, 2, 0),
+        share(&[slice, (FLAGS, 256)], 3, LATE, 40),
+        share(&[&user[..], &[(FLAGS, 128)]].concat(), 3, LATE, 40),
+        share(&service, 99, 1, 1),
     ]
 }
 
@@ -247,7 +267,11 @@ fn what_goes_on_in_a_daemon_is_told() {
         asks for reports of flooding, 16 or more to read\n  \
         seat 2 (tid 9000201 \"Binder:1\"), serves 2 calls, waits in 1 call, the innermost made at 4294967308, 3 to read\n  \
         buffer at 16 made at 4294967317 size 88 code 0x5f504e47 from pid 9000100 \"manager\", for object 4294967300.2, one-way, unread\n  \
-        buffer at 0 made at 9 size 8 code 0x0 from a process that has ended\n";
+        buffer at 0 made at 9 size 8 code 0x0 from a process that has ended\n\
+        account 4294967373: 4294967296 pieces of calls (refused 40 times)\n\
+        account 4294967373 user 2000: 4294967296 pieces of calls (refused 40 times)\n\
+        account 4294967373 user 2000 pid 9000200 \"serv\\u{1b}ice\": 9 descriptors, 4294967296 pieces of calls (refused 40 times)\n\
+        account 4294967373 user 2000 pid 9000700: 2 death notifications\n";
     assert_eq!(printed(&words), told);
     let values = printed(&[&words[..], &["--format", "json"]].concat());
     let values: Vec<serde_json::Value> = values.lines().map(|it| serde_json::from_str(it).expect("JSON")).collect();
@@ -255,6 +279,10 @@ fn what_goes_on_in_a_daemon_is_told() {
     let owner = serde_json::json!({"pid": 9_000_200, "comm": "serv\u{1b}ice"});
     assert_eq!(values[1]["handles"][0], serde_json::json!({"handle": 1, "object": "4294967300.2", "owner": owner}));
     assert_eq!(values[2]["buffers"][1]["from"], serde_json::Value::Null);
+    let calls = serde_json::json!([{"of": "calls", "taken": LATE, "refused": 40}]);
+    assert_eq!(values[3], serde_json::json!({"account": LATE + 77, "comm": null, "shares": calls}));
+    assert_eq!((&values[5]["comm"], values[5]["shares"].as_array().map(Vec::len)), (&owner["comm"], Some(2)));
+    assert_eq!((values.len(), &values[6]["pid"]), (7, &serde_json::json!(9_000_700)));
 }
 
 #[test]

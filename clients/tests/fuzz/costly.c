@@ -1,7 +1,8 @@
 /* SPDX-License-Identifier: Apache-2.0 OR MIT */
 /*
- * costly: has what takes its time to be closed, though nothing is waited for: memory of which there is much, and sockets that listen, with
- * connections that nobody has accepted. Says `ready`, and a second later leaves all of it to the daemon, says `left`, and waits.
+ * costly [control]: has what takes its time to be closed, though nothing is waited for: memory of which there is much, and sockets that
+ * listen, with connections that nobody has accepted. Says `ready`, and a second later leaves all of it to the daemon, says `left`, and
+ * waits. It leaves it in the link of a thread, or with `control` to who takes connections, in one for each that opens nothing.
  */
 #include "../raw/raw.h"
 #include "hostile.h"
@@ -48,27 +49,51 @@ static int listener_with_many(void)
     return listener;
 }
 
-int main(void)
+/* The daemon has it alone then. */
+static void give(int socket, int fd)
+{
+    char byte = 0;
+    CHECK(hostile_give(socket, &byte, sizeof byte, fd), "can't send a descriptor");
+    close(fd);
+}
+
+static void leave_in_link(const int *all)
+{
+    static struct hostile hostile;
+    CHECK(hostile_begin(&hostile, DEVICE), "no daemon");
+    puts("ready");
+    sleep(1);
+    for (int i = 0; i <= LISTENERS; i++)
+        give(hostile.link, all[i]);
+    hostile_end(&hostile);
+}
+
+static void leave_in_connections(const int *all)
+{
+    static struct hostile hostile[LISTENERS + 1];
+    puts("ready");
+    sleep(1);
+    for (int i = 0; i <= LISTENERS; i++) {
+        CHECK(hostile_connect(&hostile[i]), "no daemon");
+        give(hostile[i].control, all[i]);
+    }
+}
+
+int main(int argc, char **argv)
 {
     struct rlimit limit;
-    struct hostile hostile;
     int all[LISTENERS + 1];
-    char byte = 0;
     raw_begin(40);
     CHECK(!getrlimit(RLIMIT_NOFILE, &limit), "no limit");
     limit.rlim_cur = limit.rlim_max;
     CHECK(!setrlimit(RLIMIT_NOFILE, &limit), "no descriptors");
-    CHECK(hostile_begin(&hostile, DEVICE), "no daemon");
     all[0] = much_memory();
     for (int i = 1; i <= LISTENERS; i++)
         all[i] = listener_with_many();
-    puts("ready");
-    sleep(1);
-    for (int i = 0; i <= LISTENERS; i++) {
-        CHECK(hostile_give(hostile.link, &byte, sizeof byte, all[i]), "can't send a descriptor");
-        close(all[i]);
-    }
-    hostile_end(&hostile);
+    if (argc > 1 && !strcmp(argv[1], "control"))
+        leave_in_connections(all);
+    else
+        leave_in_link(all);
     puts("left");
     pause();
     return 0;

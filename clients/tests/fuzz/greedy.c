@@ -31,6 +31,11 @@ struct death_command {
     struct binder_handle_cookie data;
 } __attribute__((packed));
 
+struct free_command {
+    uint32_t code;
+    binder_uintptr_t buffer;
+} __attribute__((packed));
+
 static const char *const devices[] = {"/dev/binder", "/dev/hwbinder", "/dev/vndbinder"};
 
 /* Who sends, and who is sent to: the context manager of a device, with the largest window, which is of another process. */
@@ -38,14 +43,6 @@ static struct hostile sender, takers[3], taker;
 
 /* So many objects go with one parcel; and as many handles are kept in one write. */
 #define OBJECTS 128
-
-static bool begin_taker(struct hostile *it, const char *device)
-{
-    if (!hostile_connect(it) || !hostile_open(it, device) || !hostile_map(it, WINDOW_MAX) || !hostile_thread(it))
-        return false;
-    it->page->request = (struct page_request){.op = PAGE_SET_MANAGER};
-    return hostile_ask(it, 900) && !it->page->answer.error;
-}
 
 /* Whether a read has got that a call was refused. */
 static bool is_refused(const struct hostile *hostile)
@@ -72,6 +69,31 @@ static bool write_all(struct hostile *hostile, const void *stream, size_t size)
            && !is_refused(hostile);
 }
 
+static bool begin_taker(struct hostile *it, const char *device)
+{
+    if (!hostile_connect(it) || !hostile_open(it, device) || !hostile_map(it, WINDOW_MAX) || !hostile_thread(it))
+        return false;
+    const uint32_t loop = BC_ENTER_LOOPER;
+    it->page->request = (struct page_request){.op = PAGE_SET_MANAGER};
+    return hostile_ask(it, 900) && !it->page->answer.error && write_all(it, &loop, sizeof loop);
+}
+
+/* Gives the buffer of the call back that the latest read got, if it got one. */
+static bool give_back(struct hostile *hostile)
+{
+    uint32_t size = hostile->page->answer.returns_size, code;
+    struct binder_transaction_data record;
+    for (uint32_t at = 0; at + sizeof code <= size; at += sizeof code + _IOC_SIZE(code)) {
+        memcpy(&code, hostile->page->returns + at, sizeof code);
+        if (code != BR_TRANSACTION)
+            continue;
+        memcpy(&record, hostile->page->returns + at + sizeof code, sizeof record);
+        const struct free_command given = {BC_FREE_BUFFER, record.data.ptr.buffer};
+        return write_all(hostile, &given, sizeof given);
+    }
+    return true;
+}
+
 /* Calls without bytes, which nobody reads. */
 static size_t send_calls(size_t count)
 {
@@ -84,7 +106,7 @@ static size_t send_calls(size_t count)
     return sent;
 }
 
-/* Objects that the taker keeps by its own references, if it does; or that go as handles that nobody keeps. */
+/* Objects that the taker keeps by its own references alone, if it does; or that are in calls which nobody reads. */
 static size_t send_objects(size_t count, bool keeps, bool watches)
 {
     static uint64_t next = 8;
@@ -102,7 +124,7 @@ static size_t send_objects(size_t count, bool keeps, bool watches)
         }
         struct calling call = {BC_TRANSACTION, {.flags = TF_ONE_WAY, .data_size = OBJECTS * sizeof *objects, .offsets_size = OBJECTS * 8,
                                              .data.ptr = {.buffer = 0, .offsets = OBJECTS * sizeof *objects}}};
-        if (!write_all(&sender, &call, sizeof call) || (keeps && !write_all(&taker, keep, sizeof keep))
+        if (!write_all(&sender, &call, sizeof call) || (keeps && !(write_all(&taker, keep, sizeof keep) && give_back(&taker)))
             || (watches && !write_all(&taker, watch, sizeof watch)))
             break;
         sent += OBJECTS;

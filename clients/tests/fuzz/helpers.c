@@ -207,14 +207,25 @@ void helper_change_user(unsigned which)
     expect(ask(&helpers[which], CHANGE_USER, 0), "a helper answers");
 }
 
+/* Waits until a process has ended that was killed. The fuzzer's own alarm may interrupt that. */
+static void await_end(int process)
+{
+    struct pollfd end = {.fd = process, .events = POLLIN};
+    int count;
+    do
+        count = poll(&end, 1, 10000);
+    while (count < 0 && errno == EINTR);
+    expect(count == 1, "a helper ends");
+}
+
 void helper_renew(unsigned which)
 {
     struct helper *helper = &helpers[which];
-    struct pollfd end = {.fd = (int)syscall(SYS_pidfd_open, helper->pid, 0), .events = POLLIN};
+    int process = (int)syscall(SYS_pidfd_open, helper->pid, 0);
     kill(helper->pid, SIGKILL);
-    if (end.fd >= 0 && poll(&end, 1, 10000) != 1)
-        expect(false, "a helper ends");
-    close(end.fd);
+    if (process >= 0)
+        await_end(process);
+    close(process);
     close(helper->channel);
     drop(helper);
     expect(make(which), "another helper comes");

@@ -58,7 +58,7 @@ int inside_clock_gettime(clockid_t clock, struct timespec *time)
 }
 
 /* Where the loop would wait it stops, as by a signal. */
-int inside_epoll_wait(int epoll, struct epoll_event *events, int most, int patience)
+static int wait_for_events(int epoll, struct epoll_event *events, int most, int patience)
 {
     int count = epoll_wait(epoll, events, most, 0);
     if (count || !patience || is_ending)
@@ -82,6 +82,8 @@ long inside_syscall(long number, ...)
     for (size_t i = 0; i < 6; i++)
         words[i] = va_arg(rest, long);
     va_end(rest);
+    if (number == SYS_epoll_pwait)
+        return wait_for_events((int)words[0], (void *)words[1], (int)words[2], (int)words[3]);
     if (number == SYS_epoll_pwait2)
         return wait_a_moment((int)words[0], (void *)words[1], (int)words[2], (void *)words[3]);
     return syscall(number, words[0], words[1], words[2], words[3], words[4], words[5]);

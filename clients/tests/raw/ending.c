@@ -1,8 +1,9 @@
 /* SPDX-License-Identifier: Apache-2.0 OR MIT */
 /*
- * ending handles|deaths|buffers COUNT: the longest call while a process ends that holds so many of another's objects, and has asked with
- * `deaths` to be told of their owner's death too, or that has so many buffers which it hasn't given back. Prints `ended` and the longest in
- * microseconds once nothing is held any more, and waits to be ended: the owner's end would take its time too.
+ * ending handles|deaths|calls COUNT: the longest call while a process ends that holds so many of another's objects, and has asked with
+ * `deaths` to be told of their owner's death too, or that has so many one-way calls which it hasn't read. Prints `ended` and the longest in
+ * microseconds once nothing is held any more, or after two seconds, and waits to be ended: the owner's end would take its time too.
+ * `ending owner COUNT` is the end of the owner, of whose objects another has asked to hear.
  */
 #include "raw.h"
 
@@ -27,7 +28,7 @@ static struct {
 } *counts;
 static size_t count;
 static _Thread_local size_t heard; /* that an object is referred to */
-static bool asks_for_deaths, are_buffers;
+static bool asks_for_deaths, are_calls, is_owners;
 
 struct exchange {
     struct binder *binder;
@@ -86,10 +87,7 @@ static void hold(struct exchange *exchange, uint32_t code, const uint8_t *payloa
         return;
     memcpy(&record, payload, sizeof record);
     keep_objects(exchange, &record);
-    if (!are_buffers)
-        put(exchange, BC_FREE_BUFFER, &record.data.ptr.buffer);
-    else
-        atomic_fetch_add(&counts->held, 1);
+    put(exchange, BC_FREE_BUFFER, &record.data.ptr.buffer);
     flush(exchange);
 }
 
@@ -103,6 +101,8 @@ static void hold_all(void *with)
     exchange.binder = &client.binder;
     put(&exchange, BC_ENTER_LOOPER, NULL);
     raw_ready();
+    while (are_calls)
+        pause();
     for (;;)
         make(&exchange, hold);
 }
@@ -157,15 +157,15 @@ static void own_all(void *with)
     uint32_t handle = raw_fetch(&client);
     CHECK(looper_flush(&client.looper) && !pthread_create(&thread, NULL, hear_all, &client.binder), "no thread");
     exchange.binder = &client.binder;
-    for (size_t sent = 0; sent < count; sent += are_buffers ? 1 : OBJECTS) {
-        while (sent > atomic_load(&counts->held) + 4 * OBJECTS)
+    for (size_t sent = 0; sent < count; sent += are_calls ? 1 : OBJECTS) {
+        while (!are_calls && sent > atomic_load(&counts->held) + 4 * OBJECTS)
             usleep(100);
-        send_one(&exchange, handle, are_buffers ? 0 : OBJECTS);
-        while (!are_buffers && heard < 2 * (sent + OBJECTS))
+        send_one(&exchange, handle, are_calls ? 0 : OBJECTS);
+        while (!are_calls && heard < 2 * (sent + OBJECTS))
             make(&exchange, hear);
     }
     flush(&exchange);
-    while (atomic_load(&counts->held) < count)
+    while (!are_calls && atomic_load(&counts->held) < count)
         usleep(1000);
     raw_ready();
     for (;;)
@@ -178,7 +178,7 @@ static double longest_until_gone(struct client *client, pid_t holder)
 {
     double longest = 0, begin = raw_now();
     CHECK(!kill(holder, SIGKILL) && waitpid(holder, NULL, 0) == holder, "can't end it");
-    while (are_buffers ? raw_now() - begin < 2e6 : atomic_load(&counts->gone) < count) {
+    while (are_calls || is_owners ? raw_now() - begin < 2e6 : atomic_load(&counts->gone) < count) {
         struct binder_transaction_data reply;
         double start = raw_now();
         CHECK(start - begin < PATIENCE, "%llu of %zu objects are let go of", (unsigned long long)atomic_load(&counts->gone), count);
@@ -192,17 +192,17 @@ static double longest_until_gone(struct client *client, pid_t holder)
 int main(int argc, char **argv)
 {
     static struct client client;
-    CHECK(argc >= 3, "ending handles|deaths|buffers COUNT");
-    asks_for_deaths = !strcmp(argv[1], "deaths"), are_buffers = !strcmp(argv[1], "buffers");
+    CHECK(argc >= 3, "ending handles|deaths|calls|owner COUNT");
+    is_owners = !strcmp(argv[1], "owner"), are_calls = !strcmp(argv[1], "calls");
+    asks_for_deaths = !strcmp(argv[1], "deaths") || is_owners;
     count = strtoul(argv[2], NULL, 10);
     counts = mmap(NULL, sizeof *counts, PROT_READ | PROT_WRITE, MAP_SHARED | MAP_ANONYMOUS, -1, 0);
     CHECK(counts != MAP_FAILED, "no memory");
     raw_begin(120);
     raw_start_keeper();
     raw_open(&client, WINDOW, NULL);
-    pid_t holder = raw_start(hold_all, NULL);
-    raw_start(own_all, NULL);
-    printf("ended %.1f\n", longest_until_gone(&client, holder));
+    pid_t holder = raw_start(hold_all, NULL), owner = raw_start(own_all, NULL);
+    printf("ended %.1f\n", longest_until_gone(&client, is_owners ? owner : holder));
     pause();
     return 0;
 }

@@ -5,6 +5,7 @@ mod daemon;
 pub mod kernel;
 mod program;
 mod ring;
+mod shares;
 mod slot;
 pub mod state;
 #[cfg(feature = "top")]

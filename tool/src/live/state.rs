@@ -1,7 +1,8 @@
 // SPDX-License-Identifier: Apache-2.0 OR MIT
-//! What a daemon that runs tells of a device: its processes, their threads, handles and buffers (clients/protocol.h). It tells them page
-//! by page, each of a moment of its own.
+//! What a daemon that runs tells of a device: its processes, their threads, handles and buffers, and what all have of its shares
+//! (clients/protocol.h). It tells them page by page, each of a moment of its own.
 use super::daemon::each_page;
+use super::shares::{Owner, Shares};
 use super::Where;
 use crate::arguments::Format;
 use crate::record::{u32_at, u64_at};
@@ -57,6 +58,7 @@ const PROCESS: u32 = 1;
 const THREAD: u32 = 2;
 const HANDLE: u32 = 3;
 const BUFFER: u32 = 4;
+const SHARE: u32 = 5;
 
 const MANAGER: u32 = 1;
 const DETECTS_SPAM: u32 = 2;
@@ -65,6 +67,8 @@ const WAITS: u32 = 8;
 const ONE_WAY: u32 = 16;
 const HANDED: u32 = 32;
 const CALL: u32 = 64;
+const OF_USER: u32 = 128;
+const OF_ACCOUNT: u32 = 256;
 
 /// So many things to be read are counted, and perhaps there are more.
 const MOST_UNREAD: u32 = 16;
@@ -161,6 +165,7 @@ struct Process {
 struct Told {
     steps: u64,
     processes: BTreeMap<u32, Process>,
+    shares: Shares,
 }
 
 impl Told {
@@ -168,13 +173,28 @@ impl Told {
         self.processes.get(&process).map(|it| Party { pid: it.pid, comm: it.comm.clone() })
     }
 
+    /// How a process of the system is called, if it has this device open.
+    fn comm(&self, pid: u32) -> Option<String> {
+        self.processes.values().find(|it| it.pid == pid).map(|it| it.comm.clone())
+    }
+
     /// Takes a record. What a process has comes behind all processes; that of one that has come since isn't told.
     fn take(&mut self, record: &Record<'_>) {
-        let of = |field| record.number(field);
-        if of(Field::Kind) == PROCESS {
-            self.processes.insert(of(Field::Process), process(record));
-            return;
+        match record.number(Field::Kind) {
+            PROCESS => {
+                self.processes.insert(record.number(Field::Process), process(record));
+            }
+            SHARE => {
+                let [taken, refused] = [Place::Made, Place::Innermost].map(|it| record.place(it));
+                self.shares.take(owner(record), record.number(Field::Code), taken, refused);
+            }
+            _ => self.take_thing(record),
         }
+    }
+
+    /// Takes a record of what a process has.
+    fn take_thing(&mut self, record: &Record<'_>) {
+        let of = |field| record.number(field);
         let party = self.party(of(Field::Party));
         let process = match self.processes.get_mut(&of(Field::Process)) {
             Some(process) => process,
@@ -214,6 +234,15 @@ fn process(record: &Record<'_>) -> Process {
         threads: Vec::new(),
         handles: Vec::new(),
         buffers: Vec::new(),
+    }
+}
+
+fn owner(record: &Record<'_>) -> Owner {
+    let is_of_process = !record.has(OF_USER) && !record.has(OF_ACCOUNT);
+    Owner {
+        account: record.place(Place::ObjectPlace),
+        user: Some(record.number(Field::Euid)).filter(|_| !record.has(OF_ACCOUNT)),
+        pid: Some(record.number(Field::Pid)).filter(|_| is_of_process),
     }
 }
 
@@ -330,6 +359,7 @@ pub fn put(to: &mut Vec<u8>, place: &Where, format: Format) -> Result<()> {
     if format == Format::Text {
         writeln!(to, "after {} steps of {}", told.steps, place.device)?;
         told.processes.values().try_for_each(|it| put_process(to, it))?;
+        told.shares.put_text(to, |pid| told.comm(pid))?;
         return Ok(());
     }
     serde_json::to_writer(&mut *to, &serde_json::json!({ "steps": told.steps, "device": place.device }))?;
@@ -338,6 +368,7 @@ pub fn put(to: &mut Vec<u8>, place: &Where, format: Format) -> Result<()> {
         serde_json::to_writer(&mut *to, it)?;
         to.push(b'\n');
     }
+    told.shares.put_json(to, |pid| told.comm(pid))?;
     Ok(())
 }
 
@@ -396,8 +427,8 @@ mod tests {
         assert_eq!(names("uint32_t "), ours.map(spelled));
         assert!(PROTOCOL.contains("#define STATE_ROOM 16u") && PROTOCOL.contains("#define STATE_UNREAD 16u"));
         assert!(PROTOCOL.contains("{ STATE_PROCESS = 1, STATE_THREAD, STATE_HANDLE, STATE_BUFFER, STATE_SHARE };"));
-        let flags = [MANAGER, DETECTS_SPAM, LOOPS, WAITS, ONE_WAY, HANDED, CALL];
-        let names = ["MANAGER", "DETECTS_SPAM", "LOOPS", "WAITS", "ONE_WAY", "HANDED", "CALL"];
+        let flags = [MANAGER, DETECTS_SPAM, LOOPS, WAITS, ONE_WAY, HANDED, CALL, OF_USER, OF_ACCOUNT];
+        let names = ["MANAGER", "DETECTS_SPAM", "LOOPS", "WAITS", "ONE_WAY", "HANDED", "CALL", "OF_USER", "OF_ACCOUNT"];
         for (flag, name) in flags.iter().zip(names) {
             assert!(PROTOCOL.contains(&format!("#define STATE_{name} {flag}u")), "{name}");
         }
