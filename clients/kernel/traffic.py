@@ -99,7 +99,7 @@ def record(given, kernel, folder):
     _, output = run(kernel, folder, given.seconds, processors=given.processors)
     for path in glob.glob(f"{folder}/recordings/*/*.*.*"):
         shorten(path)
-    for name, text in (("told", output), ("version", kernel.version)):
+    for name, text in (("outcomes", output), ("version", kernel.version)):
         with open(f"{folder}/recordings/{name}", "w", encoding="utf-8") as file:
             file.write(text)
 
@@ -108,7 +108,7 @@ def told_of(recordings):
     """Which driver it was, and what each program said, by its name."""
     with open(f"{recordings}/version", encoding="utf-8") as file:
         version = file.read()
-    with open(f"{recordings}/told", encoding="utf-8") as file:
+    with open(f"{recordings}/outcomes", encoding="utf-8") as file:
         return version, dict(line.split(" ", 1) for line in file.read().splitlines() if " " in line)
 
 
