@@ -10,7 +10,7 @@ A storm is of three processes, every third one with three of them killed; a crow
 with the kernel's tracepoints, the raw clients without. Each recording is judged by `hullpippin judge`. An order without a switch is judged
 by the proved player besides. Then recordings of raw clients are spoiled: a bit of what was read is turned, two reads' answers are
 exchanged, or a read is left out. One that is called lawful all the same has to be: its order has no switch, and the player plays it.
---calls N records eight callers of N calls each besides, 60 steps for each N. --suite takes the kernel of another of Debian's suites, as
+--calls N records eight callers of N calls each besides, 56 steps for each N. --suite takes the kernel of another of Debian's suites, as
 trixie or trixie-backports. --keep keeps the recordings there, and beside one that isn't judged, in NAME.unknown, how far it came and what
 was tried; --from judges what was kept so, by the same words, and needs no machine. --document writes what was seen into
 docs/DIFFERENCES.md. The last line ends in `not as it should be`, with how many.
@@ -64,6 +64,8 @@ one() {{
     rm -rf /tmp/recordings/$name
 }}
 """
+# so many steps are tried of a spoiled recording, some hundred times what the whole one takes
+SPOILED_TRIES = 300_000
 USED = struct.Struct("<8sQ")
 HEAD, RECORD = 64, struct.Struct("<IIQQ")
 WRITE_READ = 4
@@ -123,11 +125,11 @@ def shorten(path):
         os.truncate(path, used)
 
 
-def judged(given, recording, journal):
+def judged(given, recording, journal, *words):
     """The verdict, the switches, how many steps and threads, seconds of a processor, and all that was said."""
     before = resource.getrusage(resource.RUSAGE_CHILDREN).ru_utime
-    done = subprocess.run(["nice", "-n", "10", given.judge, "judge", recording, "--journal", journal, "--most", "64"], capture_output=True, text=True,
-                          stdin=subprocess.DEVNULL, timeout=600)
+    done = subprocess.run(["nice", "-n", "10", given.judge, "judge", recording, "--journal", journal, "--most", "64", *words],
+                          capture_output=True, text=True, stdin=subprocess.DEVNULL, timeout=1800)
     seconds = resource.getrusage(resource.RUSAGE_CHILDREN).ru_utime - before
     found = VERDICT.match(done.stdout)
     if not found:
@@ -234,7 +236,7 @@ def judge_spoiled(given, folder, recordings):
             continue
         count += 1
         journal = f"{folder}/spoiled.journal"
-        verdict, ways, *_ = judged(given, spoiled, journal)
+        verdict, ways, *_ = judged(given, spoiled, journal, "--tries", str(SPOILED_TRIES))
         if verdict == "lawful":
             player = player_says(given, journal) if not ways and given.bplay else ""
             lawful, doubtful = lawful + 1, doubtful + (not player.startswith("lawful "))
@@ -274,7 +276,9 @@ def spoiled_told(spoiled):
 def tell(given, version, seen, spoiled):
     lines = [(name, str(threads), str(steps), verdict, ways or "none", player) for name, threads, steps, verdict, ways, _, player in seen
              if not name.startswith(("storm", "crowd"))]
-    text = [f"Seen on {version}, by `clients/check kernel traffic --storms {given.storms} --crowds {given.crowds} --calls {given.calls} --seed {given.seed} --spoiled {given.spoiled}`.\n"]
+    suite = f" --suite {given.suite}" if given.suite != SUITE else ""
+    numbers = f"--storms {given.storms} --crowds {given.crowds} --calls {given.calls} --seed {given.seed} --spoiled {given.spoiled}"
+    text = [f"Seen on {version}, by `clients/check kernel traffic{suite} {numbers}`.\n"]
     text += document.table(["Raw client, untraced", "Threads", "Steps", "Verdict", "Differences needed", "The player, of the order"], lines)
     text.append("")
     rows = [(name, *group(seen, word)) for name, word in (("storms of three processes", "storm"), ("crowds of four, with two loopers each", "crowd"))]
@@ -341,8 +345,7 @@ def main():
     text = tell(given, version, seen, spoiled)
     print(text)
     if given.document:
-        if given.suite == SUITE:
-            document.write(ROOT, "traffic", text)
+        document.write(ROOT, "traffic" if given.suite == SUITE else "traffic of a newer driver", text)
         document.write_cells(ROOT, "drivers", version, cells_of(seen, spoiled))
     print(f"kernel traffic: {len(seen)} recordings, {wrong + spoiled[2]} not as it should be")
     return 0 if not wrong and not spoiled[2] else 1
