@@ -72,8 +72,12 @@ fn without_the_difference_that_it_needs_one_has_no_order() {
 
 /// Of each kind that no script shows the beginning of a recorded storm, up to where it comes about: with the differences that it needs,
 /// and with others, which don't do.
-const KINDS: [(&str, &str, &str); 3] =
-    [("numbered", "numbered,pieces", "pieces"), ("released", "released", "own_pid"), ("pieces", "pieces", "own_pid")];
+const KINDS: [(&str, &str, &str); 4] = [
+    ("numbered", "numbered,pieces", "pieces"),
+    ("released", "released", "own_pid"),
+    ("pieces", "pieces", "own_pid"),
+    ("held", "cleared,numbered,held", "cleared,numbered"),
+];
 
 #[test]
 fn kinds_that_no_script_shows_are_seen() {
