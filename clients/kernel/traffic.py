@@ -251,11 +251,11 @@ def judge_spoiled(given, folder, recordings):
 # ------------------------------------------------------------ what is told
 
 def group(seen, word):
-    """Of the recordings whose names begin so: how many, how many judged, the most steps and threads, the longest."""
+    """Of the recordings whose names begin so: how many, how many judged, the most steps and threads, the longest that was judged."""
     its = [it for it in seen if it[0].startswith(word)]
     good = [it for it in its if it[3] == "lawful"]
     steps = [it[2] for it in its] or [0]
-    return len(its), len(good), min(steps), max(steps), max([it[1] for it in its] or [0]), max([it[5] for it in its] or [0])
+    return len(its), len(good), min(steps), max(steps), max([it[1] for it in its] or [0]), max([it[5] for it in good] or [0])
 
 
 def needs_of(seen):
@@ -282,7 +282,7 @@ def tell(given, version, seen, spoiled):
     text += document.table(["Raw client, untraced", "Threads", "Steps", "Verdict", "Differences needed", "The player, of the order"], lines)
     text.append("")
     rows = [(name, *group(seen, word)) for name, word in (("storms of three processes", "storm"), ("crowds of four, with two loopers each", "crowd"))]
-    text += document.table(["With tracepoints", "Recordings", "Judged lawful", "Least steps", "Most", "Threads up to", "Seconds at most"],
+    text += document.table(["With tracepoints", "Recordings", "Judged lawful", "Least steps", "Most", "Threads up to", "Seconds at most of those judged"],
                            [(*map(str, it[:-1]), f"{it[-1]:.1f}") for it in rows])
     text += ["", f"Those that were judged need, in so many: {needs_of(seen)}.",
              f"Spoiled recordings of raw clients that were called lawful: {spoiled_told(spoiled)}, since the player plays their orders too."]
