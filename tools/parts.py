@@ -66,7 +66,7 @@ def whole(anew):
         Part("library", ["tools/library"], r"^(?P<passed>\d+) programs .* (?P<failed>\d+) differences$", 40, of_archive, ("tests",)),
         Part("starve", ["tools/starve"], r"^[1-9]\d* requests refused, (?P<failed>\d+) differ$", 40, of_archive),
         Part("installed", ["tools/installed"], r"^installed: .*; (?P<failed>\d+) wrong$", 30, of_archive, ("tests",)),
-        Part("clients", ["clients/check", "raw", "--plain", "--untimed", "--seconds", "10", "--seed", "1"], OF_CLIENTS, 40, of_archive),
+        Part("clients", ["clients/check", "raw", "--plain", "--untimed", "--seconds", "10", "--seed", "1"], OF_CLIENTS, 40, of_archive, ("viewer",)),
         Part("libgbinder", ["clients/check", "--plain", "--untimed", "--only", "libgbinder"], OF_CLIENTS, 20, of_archive, network=True),
         Part("bench", ["bench/run", "--check"], r"^(?P<passed>\d+) journals are as they must be", 20, of_archive, ("tests",)),
         Part("tool", ["tool/check"], r"^test result: \w+\. (?P<passed>\d+) passed; (?P<failed>\d+) failed;", 40, of_archive, ("viewer", "tests")),

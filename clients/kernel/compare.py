@@ -1,6 +1,7 @@
 #!/usr/bin/env python3
 # SPDX-License-Identifier: Apache-2.0 OR MIT
-"""Plays scripts on Linux's own driver, on the engine, and on the model that stands between them, and tells where they agree.
+"""Plays scripts on Linux's own driver, on the engine, and by the rules that stand between them (`hullpippin rules`), and tells where they
+agree.
 
     clients/check kernel [--scripts N] [--long N] [--pool N] [--seed N] [--bplay PROGRAM] [--kernel FOLDER] [--seconds N]
         [--keep FOLDER] [--only WORD] [--document]
@@ -8,14 +9,14 @@
 
 Of random scripts N have 60 lines (500), N have 200 (100), and N have 60 with a pool of threads that wait for calls (100); besides them
 the worked examples are played that a real program can play, and the scripts in `kinds/`, each of which has to show its difference. The
-model with all switches off has to answer as the player does, line by line, and with all on as the driver does. The last line is
-`kernel: N agree, D differ in named ways, 0 unknown`: in how many scripts the driver answers as the rules have it, in how many otherwise
-as the named differences have it, and in how many neither.
+rules without a switch have to answer as the player does, line by line, and with all as the driver does. The last line is `kernel: N agree,
+D differ in named ways, 0 unknown`: in how many scripts the driver answers as the rules have it, in how many otherwise as the named
+differences have it, and in how many neither.
 
 The kernel is fetched into FOLDER (clients/out/kernel). What was played stays in --keep FOLDER: the same words go on where a run was
 broken off, or had no more than --seconds. --only plays what has WORD in its name, as "kind". --document writes what was seen into
-docs/DIFFERENCES.md. With --model the driver is left out, and with it the network and the machine: only the model is judged, beside
-the player.
+docs/DIFFERENCES.md. With --model the driver is left out, and with it the network and the machine: only the rules are judged, beside
+the player. Needs tool/setup's hullpippin, or the one that HULLPIPPIN names.
 """
 import argparse
 import glob
@@ -36,8 +37,9 @@ import engine  # noqa: E402
 from differences import DIFFERENCES  # noqa: E402
 from fetch import Kernel, Missing, default_folder  # noqa: E402
 from machine import NotRun  # noqa: E402
-from play import played, with_keys  # noqa: E402
+from play import Played, with_keys  # noqa: E402
 from random_scripts import PoolMaker, made  # noqa: E402
+from rules import NoRules  # noqa: E402
 from scripts import Script  # noqa: E402
 
 LINES, LONG = 60, 200
@@ -48,9 +50,9 @@ class Case:
 
     def __init__(self, name, text):
         self.name, self.script = name, with_keys(Script(text))
-        self.rules, self.plain = played(self.script)
-        self.expected, drivers = played(self.script, DIFFERENCES)
-        self.asked = drivers.space.asked
+        by_rules, drivers = Played(self.script), Played(self.script, DIFFERENCES)
+        self.rules, self.plain = by_rules.lines, by_rules.plain
+        self.expected, self.asked = drivers.lines, drivers.asked
         self.answers = None
 
     def lowered(self):
@@ -61,7 +63,7 @@ class Case:
         return next((it for it in lines if it.lowered and self.answers.lines.get(it.number) != it.answers), None)
 
     def unknown(self):
-        """Where the driver doesn't answer as its model: the line, or None."""
+        """Where the driver doesn't answer as the rules with all differences: the line, or None."""
         if not self.answers:
             return self.expected[-1]
         return self.differs_from(self.expected)
@@ -71,9 +73,9 @@ class Case:
         return self.differs_from([rule for rule, it in zip(self.rules, self.expected) if it.lowered]) is None
 
     def differences(self):
-        """The differences without which the driver's model would answer otherwise here; all that are named if it takes several."""
+        """The differences without which the rules would answer otherwise than the driver here."""
         def answers(ways):
-            return [it.answers for it in played(self.script, ways)[0]]
+            return [it.answers for it in Played(self.script, ways).lines]
         whole = [it.answers for it in self.expected]
         return [name for name in DIFFERENCES if name in self.asked and answers(DIFFERENCES.keys() - {name}) != whole]
 
@@ -96,15 +98,15 @@ def cases(given):
 
 
 def judge_model(all_cases, program):
-    """The model without any difference has to answer as the player: in how many scripts it doesn't."""
+    """The rules without any difference have to answer as the player: in how many scripts they don't."""
     wrong = 0
     for case in all_cases:
-        found = engine.first_difference(program, case.plain)
+        found = engine.first_difference(program, case.script.seats, case.plain)
         if found:
             wrong += 1
-            print(f"FAIL {case.name}: the model isn't the player: {found[0][:160]}\n  model  {found[1][:300]}\n  player {found[2][:300]}")
+            print(f"FAIL {case.name}: the rules aren't the player: {found[0][:160]}\n  rules  {found[1][:300]}\n  player {found[2][:300]}")
     lines = sum(len(it.rules) for it in all_cases)
-    print(f"the model with all switches off answers as the player in {len(all_cases) - wrong} of {len(all_cases)} scripts, {lines} lines")
+    print(f"the rules without a switch answer as the player in {len(all_cases) - wrong} of {len(all_cases)} scripts, {lines} lines")
     return wrong
 
 
@@ -167,7 +169,11 @@ def main():
     if not os.path.exists(given.bplay):
         print(f"kernel: {given.bplay} isn't built: cd crates/bd_play && rt run < stdin", file=sys.stderr)
         return 1
-    all_cases = cases(given)
+    try:
+        all_cases = cases(given)
+    except NoRules as why:
+        print(f"kernel: {why}", file=sys.stderr)
+        return 1
     wrong = judge_model(all_cases, given.bplay)
     if given.model:
         return 1 if wrong else 0
@@ -187,7 +193,9 @@ def main():
         print(f"{len(those):5}  {name}: {DIFFERENCES[name].driver}")
     if given.document and not unknown and not wrong and not given.only:
         run = document.Run(kernel.version, given, all_cases, met, agree, differ)
-        document.write(ROOT, "the run", document.text_of(run))
+        if os.path.abspath(given.kernel) == default_folder():
+            document.write(ROOT, "the run", document.text_of(run))
+        document.write_cells(ROOT, "drivers", kernel.version, {"Scripts": f"{agree} agree, {differ} in named ways, {unknown} unknown"})
     print(f"kernel: {agree} agree, {differ} differ in named ways, {unknown + wrong} unknown")
     return 1 if unknown or wrong else 0
 

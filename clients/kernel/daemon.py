@@ -5,7 +5,7 @@
     clients/check kernel daemon [--scripts N] [--seed N] [--patience MICROSECONDS] [--model] [--kernel FOLDER] [--keep FOLDER]
         [--seconds N] [--document]
 
-The same scripts are played on the driver, as by `clients/check kernel`; with --model its model (space.py with all switches on) answers in
+The same scripts are played on the driver, as by `clients/check kernel`; with --model its model (the rules with all switches) answers in
 its place. A script has 60 lines. Its threads are in the loop, read with room of 256 bytes what there is for them before they write, call
 and acquire what they name strongly, release what they acquired, and stay; a process ends now and then. Of a thread's lines that could be
 written, 6 in 27 each are calls, replies and acknowledgements, 4 free a buffer, 3 ask for references and 2 for deaths; a call has no object
@@ -36,8 +36,9 @@ from differences import DIFFERENCES  # noqa: E402
 from document import fields_apart, shown_all  # noqa: E402
 from fetch import Kernel, Missing, default_folder  # noqa: E402
 from machine import NotRun  # noqa: E402
-from play import played  # noqa: E402
+from play import Played  # noqa: E402
 from random_scripts import PoliteMaker, made  # noqa: E402
+from rules import NoRules  # noqa: E402
 from wire import read_returns  # noqa: E402
 
 TOLD = ("BR_INCREFS", "BR_ACQUIRE", "BR_RELEASE", "BR_DECREFS")
@@ -79,7 +80,7 @@ def play(lowered, patience, seconds):
 
 def answers_of(case, ways):
     """What the model answers, line by line, as far as the driver's player can play the script."""
-    return [its.answers for its, line in zip(played(case.script, ways)[0], case.expected) if line.lowered]
+    return [its.answers for its, line in zip(Played(case.script, ways).lines, case.expected) if line.lowered]
 
 
 def names_of(case, its):
@@ -193,11 +194,11 @@ def arguments():
 
 def main():
     given = arguments()
-    all_cases = [Case(f"polite script {it}", made(it, LINES, PoliteMaker)) for it in range(given.seed, given.seed + given.scripts)]
     try:
+        all_cases = [Case(f"polite script {it}", made(it, LINES, PoliteMaker)) for it in range(given.seed, given.seed + given.scripts)]
         found = play({it.name: it.lowered() for it in all_cases}, given.patience, given.seconds)
         wrong, version = (0, "its model") if given.model else judge_driver(given, all_cases)
-    except (Missing, NotRun, OSError, subprocess.TimeoutExpired) as why:
+    except (Missing, NoRules, NotRun, OSError, subprocess.TimeoutExpired) as why:
         print(f"daemon: it can't be played: {why}", file=sys.stderr)
         return 1
     judged = judge(all_cases, found)

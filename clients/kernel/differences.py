@@ -1,5 +1,5 @@
 # SPDX-License-Identifier: Apache-2.0 OR MIT
-"""What Linux's driver does otherwise than the rules, each under a name of its own, which is a switch of the model (space.py).
+"""What Linux's driver does otherwise than the rules, each under a name of its own, which is a switch of the model (tool/src/rules).
 
 Lines are those of drivers/android in Linux 6.1, as Debian's linux-source-6.1 6.1.192-2 has it. `kinds/NAME.script` is a short script that
 shows the difference.

@@ -83,10 +83,16 @@ def write(root, part, text):
         file.write(f"{before}\n{text}\n{after}")
 
 
-def write_row(root, part, cells):
-    """Puts a line into the table of a part, in the place of the one that begins with the same cell."""
+def cells_of(line):
+    return [it.strip() for it in line.strip("|").split("|")]
+
+
+def write_cells(root, part, first, cells):
+    """Puts cells, by their columns' names, into the line of a part's table that begins with a cell; others of it stay as they are."""
     path, before, text, after = parts(root, part)
-    lines = [it for it in text.splitlines() if not it.startswith(f"| {cells[0]} |")] + [f"| {' | '.join(cells)} |"]
-    lines[2:] = sorted(lines[2:])
+    head, _, *lines = map(cells_of, text.splitlines())
+    by_first = {it[0]: it for it in lines}
+    line = dict(zip(head, by_first.get(first, [first] + ["not seen"] * (len(head) - 1))))
+    by_first[first] = [{**line, **cells}[name] for name in head]
     with open(path, "w", encoding="utf-8") as file:
-        file.write("\n".join([before, *lines, after]))
+        file.write("\n".join([before, *table(head, [by_first[it] for it in sorted(by_first)]), after]))

@@ -1,18 +1,21 @@
 # SPDX-License-Identifier: Apache-2.0 OR MIT
-"""Random scripts, each from a number alone, guided by what the model has so that they reach far: what is there is what most lines name.
+"""Random scripts, each from a number alone, guided by what there is behind each line so that they reach far: that is what most lines name.
 
 They hold only what a real program can ask of the driver: no descriptors, no scatter-gather commands, no BC_REGISTER_LOOPER, no object with
 a security context; all those the rules leave out.
 """
 import random
 import struct
+from types import SimpleNamespace
 
 from differences import DIFFERENCES
-from play import IS_KEY, Play
+from play import IS_KEY
+from rules import Dialogue
 from scripts import request_of, tohex
-from space import FIRST_POINTER, STRONG, WEAK
 from wire import BINDER, FLAT, HANDLE, ONE_WAY, REFUSED, WEAK_BINDER, WEAK_HANDLE, Record, command, padded
 
+WEAK, STRONG = 0, 1
+FIRST_POINTER = 65536
 PIDS = [100, 200, 300, 400, 500, 600]
 PTRS = [4096, 4104, 4112, 4120, 0]
 COOKIES = [77, 78, 2 ** 64 - 1]
@@ -26,8 +29,23 @@ SUBJECTS = {"plain": {}, "references": {"references": 16, "acknowledge": 10, "fr
             "nested": {"call": 20, "reply": 14, "exit": 0.5}, "waiting": {"wait": 30, "read": 6}, "waits and ends": {"wait": 20, "exit": 4}}
 
 
+class Seen:
+    """What there is behind a line: threads by their seats, processes by their pids."""
+
+    def __init__(self, state):
+        self.manager = state["manager"]
+        self.processes = {it["pid"]: self.process(**it) for it in state["processes"]}
+        self.threads = {it["seat"]: SimpleNamespace(process=self.processes[it["pid"]], **it) for it in state["threads"]}
+
+    @staticmethod
+    def process(pid, parcels, objects, names, told):
+        objects = {it["ptr"]: SimpleNamespace(**it) for it in objects}
+        names = {it["number"]: SimpleNamespace(**it) for it in names}
+        return SimpleNamespace(pid=pid, parcels=parcels, objects=objects, names=names, told=told)
+
+
 class Maker:
-    """A script that grows line by line, played on the driver's model as it does."""
+    """A script that grows line by line, played as the driver plays it as it does."""
 
     def __init__(self, number, length):
         self.random = random.Random(f"script {number} {length}")
@@ -35,8 +53,7 @@ class Maker:
         self.subject = names[number % len(names)]
         self.weights = {**PLAIN, "wait": 0, **SUBJECTS[self.subject]}
         self.seats = self.random.choice([3, 4, 4, 5, 6])
-        self.play = Play(self.seats, DIFFERENCES)
-        self.lines, self.is_over = [f"seats {self.seats}"], False
+        self.dialogue, self.seen, self.lines, self.is_over = None, None, [], False
 
     def text(self):
         return "".join(f"{it}\n" for it in self.lines)
@@ -49,7 +66,17 @@ class Maker:
 
     def put(self, seat, words):
         self.lines.append(f"{seat} {words}")
-        self.play.line(seat, request_of(words.split()))
+        self.dialogue.ask(self.lines[-1])
+        self.seen = Seen(self.dialogue.ask("state"))
+
+    def made(self, length):
+        """The whole script, of so many lines."""
+        self.dialogue, self.lines = Dialogue(self.seats, DIFFERENCES), [f"seats {self.seats}"]
+        self.begin()
+        while len(self.lines) <= length and not self.is_over:
+            self.line()
+        self.dialogue.end()
+        return self.text()
 
     def begin(self):
         for seat in range(min(self.seats, 3)):
@@ -61,12 +88,12 @@ class Maker:
 
     def is_free(self, seat):
         """Whether a seat can do something: its thread doesn't wait."""
-        return self.play.space.threads.get(seat) not in self.play.waiting
+        return seat not in self.seen.threads or not self.seen.threads[seat].waits
 
     def line(self):
         """One more line that there is a way to write."""
         seat = self.pick(it for it in range(self.seats) if self.is_free(it))
-        thread = self.play.space.threads.get(seat)
+        thread = self.seen.threads.get(seat)
         words = None if thread else self.enter_space()
         while not words:
             kinds = list(self.weights)
@@ -75,7 +102,7 @@ class Maker:
         self.put(seat, words)
 
     def enter_space(self):
-        live = [it.pid for it in self.play.space.processes]
+        live = list(self.seen.processes)
         if live and (self.chance(0.5) or len(live) == len(PIDS)):
             return f"attach {self.pick(live)}"
         return f"open {self.pick(it for it in PIDS if it not in live)} {self.pick([0, 7, 1000])} {self.pick([4096, 4096, 8192])}"
@@ -83,12 +110,12 @@ class Maker:
     # ------------------------------------------------------------ kinds of lines: words, or None where there is nothing to name
 
     def read(self, thread):
-        if not self.play.space.list_to_read(thread) and self.chance(0.7):
+        if not thread.ready and self.chance(0.7):
             return None
         return f"read {self.pick(LIMITS) if self.chance(0.15) else 256}"
 
     def wait(self, thread):
-        going = [it for seat, it in self.play.space.threads.items() if it is not thread and self.is_free(seat)]
+        going = [it for it in self.seen.threads.values() if it is not thread and not it.waits]
         return "wait 256" if len(going) >= MOST_WAITING else None
 
     def call(self, thread):
@@ -99,14 +126,12 @@ class Maker:
         return f"tx {number} {self.random.randrange(9)} {flags} {self.parcel(thread.process)}"
 
     def reply(self, thread):
-        frame = self.play.space.innermost(thread)
-        serves = frame and frame.server is thread
-        if not serves and self.chance(0.95):
+        if not thread.serves and self.chance(0.95):
             return None
         return f"reply {self.random.randrange(9)} {self.pick([0, 0, ONE_WAY])} {self.parcel(thread.process)}"
 
     def free(self, thread):
-        read = [it.key for it in thread.process.buffers if it.is_handed]
+        read = thread.process.parcels
         if self.chance(0.05):
             return f"free {self.pick([0, FIRST_POINTER + 8, IS_KEY | 31 << 32])}"
         return f"free {self.pick(read)}" if read else None
@@ -116,24 +141,24 @@ class Maker:
 
     def acknowledge(self, thread):
         owed = [(verb, it) for it in thread.process.objects.values()
-                for verb, strength in (("increfsdone", WEAK), ("acquiredone", STRONG)) if it.handshake[strength]]
+                for verb, strength in (("increfsdone", WEAK), ("acquiredone", STRONG)) if it.owed[strength]]
         if not owed or self.chance(0.05):
             return f"{self.pick(['increfsdone', 'acquiredone'])} {self.pick(PTRS)} 8192" if self.chance(0.2) else None
         verb, obj = self.pick(owed)
         return f"{verb} {obj.ptr} {obj.cookie}"
 
     def deaths(self, thread):
-        told = [it.cookie for it in thread.process.told]
+        told = thread.process.told
         if told and self.chance(0.5):
             return f"deaddone {self.pick(told)}"
-        asked = [it for it in thread.process.names.values() if it.death]
+        asked = [it for it in thread.process.names.values() if it.death is not None]
         if asked and self.chance(0.4):
             name = self.pick(asked)
-            return f"cleardeath {name.number} {name.death.cookie if self.chance(0.9) else 5}"
+            return f"cleardeath {name.number} {name.death if self.chance(0.9) else 5}"
         return f"askdeath {self.number(thread.process, 0.1)} {self.pick(COOKIES)}" if thread.process.names else None
 
     def loop(self, thread):
-        return "exitloop" if thread.is_looping and self.chance(0.3) else "enter"
+        return "exitloop" if thread.looping and self.chance(0.3) else "enter"
 
     def manage(self, _):
         return "manager"
@@ -142,7 +167,7 @@ class Maker:
         return f"spam {int(self.chance(0.8))}"
 
     def exit(self, thread):
-        others = [it for it in self.play.space.threads.values() if it.process is not thread.process]
+        others = [it for it in self.seen.threads.values() if it.process is not thread.process]
         if not others:
             return None
         return "exitthread" if self.chance(0.6) else "exitprocess"
@@ -203,8 +228,6 @@ class PoolMaker(Maker):
         super().__init__(number, length)
         self.weights = {**PLAIN, "wait": 45, "read": 4, "call": 20, "deaths": 6}
         self.seats = 6
-        self.play = Play(self.seats, DIFFERENCES)
-        self.lines[0] = f"seats {self.seats}"
 
     def begin(self):
         for seat, words in ((0, "open 100 0 8192"), (0, "manager"), (1, "attach 100"), (2, "attach 100"), (3, "open 200 30 4096"),
@@ -223,7 +246,7 @@ class PoliteMaker(Maker):
     def line(self):
         for _ in range(1000):
             seat = self.pick(range(self.seats))
-            thread = self.play.space.threads.get(seat)
+            thread = self.seen.threads.get(seat)
             words = self.enter_space() if not thread else self.polite(thread)
             if words:
                 self.put(seat, words)
@@ -231,38 +254,34 @@ class PoliteMaker(Maker):
         self.is_over = True  # all wait for one another
 
     def polite(self, thread):
-        if not thread.is_looping:
+        if not thread.looping:
             return "enter"
-        if self.play.space.list_to_read(thread):
+        if thread.ready:
             return "read 256"
-        if thread.todo:
+        if thread.owed:
             return None  # its call hasn't been answered yet
         kind = self.pick(["call"] * 6 + ["reply"] * 6 + ["free"] * 4 + ["references"] * 3 + ["acknowledge"] * 6 + ["deaths"] * 2)
         words = "exitprocess" if self.chance(0.01) else getattr(self, kind)(thread)
         return words if words and self.is_polite(thread, words.split()) else None
 
     def is_polite(self, thread, words):
-        space, verb = self.play.space, words[0]
+        verb, manager = words[0], self.seen.manager
         if verb in ("acquire", "increfs", "release", "decrefs", "askdeath", "tx"):
             name = thread.process.names.get(int(words[1]))
-            is_own = space.manager is None or space.manager.owner is thread.process
+            is_own = manager is None or manager == thread.process.pid
             if int(words[1]) == 0 and verb in ("acquire", "increfs", "tx"):
                 return not is_own
-            return bool(name) and (verb not in ("acquire", "tx") or name.count(STRONG) > 0) and (
+            return bool(name) and (verb not in ("acquire", "tx") or name.count[STRONG] > 0) and (
                 verb not in ("release", "decrefs") or self.acquired(name, verb))
         return True
 
-    def acquired(self, name, verb):
+    @staticmethod
+    def acquired(name, verb):
         """Whether what is released was asked for, apart from what buffers carry."""
         strength = int(verb == "release")
-        carried = sum(1 for buffer in name.process.buffers for obj, its, _ in buffer.entries if obj is name.object and its == strength)
-        return name.count(strength) > carried
+        return name.count[strength] > name.carried[strength]
 
 
 def made(number, length, maker=Maker):
     """The script of a number, of so many lines."""
-    script = maker(number, length)
-    script.begin()
-    while len(script.lines) <= length and not script.is_over:
-        script.line()
-    return script.text()
+    return maker(number, length).made(length)

@@ -1,8 +1,8 @@
 # SPDX-License-Identifier: Apache-2.0 OR MIT
 """Scripts in the player's language (docs/FORMATS.md), with one verb more: `wait LIMIT` is a read that waits until there is something.
 
-A line becomes a seat and a request as space.py takes it. Lines that only the engine's own player can play, as `look` and `post`, become
-a request of one word.
+A line becomes a seat and a request: a verb with what it has. Lines that only the engine's own player can play, as `look` and `post`,
+become a request of one word.
 """
 import re
 import struct
@@ -67,7 +67,7 @@ def is_common(request):
 
 
 class Script:
-    """Its number of seats, and its lines: their numbers, seats, requests and words."""
+    """Its number of seats, and its lines: their numbers, seats, what they ask for, and their words as they stand there."""
 
     def __init__(self, text):
         self.seats, self.lines = 0, []
@@ -78,26 +78,11 @@ class Script:
             if words[0] == "seats":
                 self.seats = int(words[1])
             elif words[1] != "look":  # which changes nothing
-                self.lines.append((number, int(words[0]), request_of(words[1:]), re.sub(" +", " ", line)))
+                self.lines.append((number, int(words[0]), " ".join(words[1:]), re.sub(" +", " ", line)))
 
     def waits(self):
-        return any(request[0] == "wait" for _, _, request, _ in self.lines)
+        return any(line.startswith("wait ") for _, _, line, _ in self.lines)
 
     def is_playable(self):
         """Whether a real program can play it on Linux's driver."""
-        return all(is_common(request) for _, _, request, _ in self.lines)
-
-
-def printed(answer, begin, end):
-    """An answer as the player prints it."""
-    kind, *rest = answer
-    if kind == "got":
-        told = " ".join(["got", *map(tohex, rest)])
-    elif kind == "wrote":
-        consumed, notes, stop = rest
-        told = f"wrote {consumed}"
-        after = "".join(f" {index}:{note}" for index, note in notes) + (f" stop {stop}" if stop else "")
-        return f"{told} {begin} {end}{after}"
-    else:
-        told = " ".join(map(str, answer))
-    return f"{told} {begin} {end}"
+        return all(is_common(request_of(line.split())) for _, _, line, _ in self.lines)

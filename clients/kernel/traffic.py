@@ -4,15 +4,16 @@
 asks whether the rules explain what the driver answered.
 
     clients/check kernel traffic [--kernel FOLDER] [--suite SUITE] [--storms N] [--crowds N] [--calls N] [--seed N] [--spoiled N]
-                                 [--processors N] [--keep FOLDER] [--judge PROGRAM] [--bplay PROGRAM] [--document]
+                                 [--processors N] [--keep FOLDER] [--from FOLDER] [--judge PROGRAM] [--bplay PROGRAM] [--document]
 
 A storm is of three processes, every third one with three of them killed; a crowd is of four with two loopers each. Both are recorded
 with the kernel's tracepoints, the raw clients without. Each recording is judged by `hullpippin judge`. An order without a switch is judged
 by the proved player besides. Then recordings of raw clients are spoiled: a bit of what was read is turned, two reads' answers are
-exchanged, or a read is left out. None may be lawful; one that is has to be looked at. --calls N records eight callers of N calls
-each besides, 60 steps for each N. --suite takes the kernel of another of Debian's suites, as trixie or trixie-backports. --keep keeps the
-recordings there, and beside one that isn't judged, in NAME.unknown, how far it came and what was tried; --document writes what was seen
-into docs/DIFFERENCES.md. The last line ends in `not as it should be`, with how many.
+exchanged, or a read is left out. One that is called lawful all the same has to be: its order has no switch, and the player plays it.
+--calls N records eight callers of N calls each besides, 56 steps for each N. --suite takes the kernel of another of Debian's suites, as
+trixie or trixie-backports. --keep keeps the recordings there, and beside one that isn't judged, in NAME.unknown, how far it came and what
+was tried; --from judges what was kept so, by the same words, and needs no machine. --document writes what was seen into
+docs/DIFFERENCES.md. The last line ends in `not as it should be`, with how many.
 """
 import argparse
 import glob
@@ -63,6 +64,8 @@ one() {{
     rm -rf /tmp/recordings/$name
 }}
 """
+# so many steps are tried of a spoiled recording, some hundred times what the whole one takes
+SPOILED_TRIES = 300_000
 USED = struct.Struct("<8sQ")
 HEAD, RECORD = 64, struct.Struct("<IIQQ")
 WRITE_READ = 4
@@ -98,7 +101,17 @@ def record(given, kernel, folder):
     _, output = run(kernel, folder, given.seconds, processors=given.processors)
     for path in glob.glob(f"{folder}/recordings/*/*.*.*"):
         shorten(path)
-    return dict(line.split(" ", 1) for line in output.splitlines() if " " in line)
+    for name, text in (("outcomes", output), ("version", kernel.version)):
+        with open(f"{folder}/recordings/{name}", "w", encoding="utf-8") as file:
+            file.write(text)
+
+
+def told_of(recordings):
+    """Which driver it was, and what each program said, by its name."""
+    with open(f"{recordings}/version", encoding="utf-8") as file:
+        version = file.read()
+    with open(f"{recordings}/outcomes", encoding="utf-8") as file:
+        return version, dict(line.split(" ", 1) for line in file.read().splitlines() if " " in line)
 
 
 def shorten(path):
@@ -112,11 +125,11 @@ def shorten(path):
         os.truncate(path, used)
 
 
-def judged(given, recording, journal):
+def judged(given, recording, journal, *words):
     """The verdict, the switches, how many steps and threads, seconds of a processor, and all that was said."""
     before = resource.getrusage(resource.RUSAGE_CHILDREN).ru_utime
-    done = subprocess.run(["nice", "-n", "10", given.judge, "judge", recording, "--journal", journal, "--most", "64"], capture_output=True, text=True,
-                          stdin=subprocess.DEVNULL, timeout=600)
+    done = subprocess.run(["nice", "-n", "10", given.judge, "judge", recording, "--journal", journal, "--most", "64", *words],
+                          capture_output=True, text=True, stdin=subprocess.DEVNULL, timeout=1800)
     seconds = resource.getrusage(resource.RUSAGE_CHILDREN).ru_utime - before
     found = VERDICT.match(done.stdout)
     if not found:
@@ -136,7 +149,7 @@ def keep_unknown(given, name, said):
             file.write(said)
 
 
-def judge_all(given, folder, told):
+def judge_all(given, folder, recordings, told):
     """A line for each recording; what was seen of each, and how many aren't as they should be."""
     seen, wrong = [], 0
     for name, _, words in runs_of(given):
@@ -144,7 +157,7 @@ def judge_all(given, folder, told):
             print(f"FAIL {name}: it ended with {told.get(name)}")
             wrong += 1
             continue
-        recording, journal = f"{folder}/recordings/{name}", f"{folder}/{name}.journal"
+        recording, journal = f"{recordings}/{name}", f"{folder}/{name}.journal"
         verdict, ways, steps, threads, seconds, said = judged(given, recording, journal)
         player = player_says(given, journal) if verdict == "lawful" and not ways and given.bplay else ""
         is_raw = words[6:] in RAW
@@ -209,37 +222,40 @@ def spoil(recording, dice):
     return f"{how} of {os.path.basename(path)} at {at}"
 
 
-def judge_spoiled(given, folder):
-    """How many are called lawful, of how many."""
-    dice, lawful, count = random.Random(given.seed), [], 0
+def judge_spoiled(given, folder, recordings):
+    """How many there were, how many of them are called lawful, and how many of those aren't lawful for certain."""
+    dice, lawful, doubtful, count = random.Random(given.seed), 0, 0, 0
     names = ["nested", "deaths", "many-4-3-50", "latency-50"]
     while count < given.spoiled:
         name = names[count % len(names)]
         spoiled = f"{folder}/spoiled"
         shutil.rmtree(spoiled, ignore_errors=True)
-        shutil.copytree(f"{folder}/recordings/{name}", spoiled)
+        shutil.copytree(f"{recordings}/{name}", spoiled)
         how = spoil(spoiled, dice)
         if how is None:
             continue
         count += 1
-        verdict, ways, *_ = judged(given, spoiled, f"{folder}/spoiled.journal")
+        journal = f"{folder}/spoiled.journal"
+        verdict, ways, *_ = judged(given, spoiled, journal, "--tries", str(SPOILED_TRIES))
         if verdict == "lawful":
-            lawful.append((name, how, ways))
-            print(f"to be looked at: {name}, {how}: lawful{', with ' + ways if ways else ''}", flush=True)
+            player = player_says(given, journal) if not ways and given.bplay else ""
+            lawful, doubtful = lawful + 1, doubtful + (not player.startswith("lawful "))
+            print(f"{'ok  ' if player.startswith('lawful ') else 'FAIL'} spoiled {name}, {how}: lawful{', with ' + ways if ways else ''}"
+                  f"{', and by the player: ' + player if player else ''}", flush=True)
             if given.keep:
                 shutil.copytree(spoiled, f"{given.keep}/spoiled-{count}", dirs_exist_ok=True)
-    print(f"{count} spoiled recordings, {len(lawful)} of them lawful")
-    return count, lawful
+    print(f"{count} spoiled recordings, {lawful} of them called lawful, {doubtful} of these not so for certain")
+    return count, lawful, doubtful
 
 
 # ------------------------------------------------------------ what is told
 
 def group(seen, word):
-    """Of the recordings whose names begin so: how many, how many judged, the most steps and threads, the longest."""
+    """Of the recordings whose names begin so: how many, how many judged, the most steps and threads, the longest that was judged."""
     its = [it for it in seen if it[0].startswith(word)]
     good = [it for it in its if it[3] == "lawful"]
     steps = [it[2] for it in its] or [0]
-    return len(its), len(good), min(steps), max(steps), max([it[1] for it in its] or [0]), max([it[5] for it in its] or [0])
+    return len(its), len(good), min(steps), max(steps), max([it[1] for it in its] or [0]), max([it[5] for it in good] or [0])
 
 
 def needs_of(seen):
@@ -251,26 +267,35 @@ def needs_of(seen):
     return ", ".join(f"*{way}* {count}" for way, count in sorted(needed.items(), key=lambda it: -it[1])) or "none"
 
 
-def tell(given, kernel, seen, spoiled):
+def spoiled_told(spoiled):
+    """What is told of spoiled recordings."""
+    count, lawful, doubtful = spoiled
+    return f"{lawful} of {count}, {lawful - doubtful} so for certain" if lawful else f"0 of {count}"
+
+
+def tell(given, version, seen, spoiled):
     lines = [(name, str(threads), str(steps), verdict, ways or "none", player) for name, threads, steps, verdict, ways, _, player in seen
              if not name.startswith(("storm", "crowd"))]
-    text = [f"Seen on {kernel.version}, by `clients/check kernel traffic --storms {given.storms} --crowds {given.crowds} --calls {given.calls} --seed {given.seed} --spoiled {given.spoiled}`.\n"]
+    suite = f" --suite {given.suite}" if given.suite != SUITE else ""
+    numbers = f"--storms {given.storms} --crowds {given.crowds} --calls {given.calls} --seed {given.seed} --spoiled {given.spoiled}"
+    text = [f"Seen on {version}, by `clients/check kernel traffic{suite} {numbers}`.\n"]
     text += document.table(["Raw client, untraced", "Threads", "Steps", "Verdict", "Differences needed", "The player, of the order"], lines)
     text.append("")
     rows = [(name, *group(seen, word)) for name, word in (("storms of three processes", "storm"), ("crowds of four, with two loopers each", "crowd"))]
-    text += document.table(["With tracepoints", "Recordings", "Judged lawful", "Least steps", "Most", "Threads up to", "Seconds at most"],
+    text += document.table(["With tracepoints", "Recordings", "Judged lawful", "Least steps", "Most", "Threads up to", "Seconds at most of those judged"],
                            [(*map(str, it[:-1]), f"{it[-1]:.1f}") for it in rows])
-    text += ["", f"Those that were judged need, in so many: {needs_of(seen)}. Of {spoiled[0]} spoiled recordings {len(spoiled[1])} were called lawful."]
+    text += ["", f"Those that were judged need, in so many: {needs_of(seen)}.",
+             f"Spoiled recordings of raw clients that were called lawful: {spoiled_told(spoiled)}, since the player plays their orders too."]
     return "\n".join(text)
 
 
-def row_of(kernel, seen, spoiled):
-    """The line of a driver in the table of all."""
+def cells_of(seen, spoiled):
+    """What the table of all drivers has of it."""
     raw = [it for it in seen if not it[0].startswith(("storm", "crowd"))]
-    good = sum(it[3] == "lawful" for it in raw)
-    judged_of = [group(seen, word)[:2] for word in ("storm", "crowd")]
-    return (kernel.version, f"{good} of {len(raw)}", *(f"{good} of {count}" for count, good in judged_of), needs_of(seen),
-            f"{len(spoiled[1])} of {spoiled[0]}")
+    storms, crowds = (group(seen, word)[:2] for word in ("storm", "crowd"))
+    return {"Raw clients lawful": f"{sum(it[3] == 'lawful' for it in raw)} of {len(raw)}", "Storms": f"{storms[1]} of {storms[0]}",
+            "Crowds": f"{crowds[1]} of {crowds[0]}", "Differences needed by both": needs_of(seen),
+            "Spoiled ones called lawful": spoiled_told(spoiled)}
 
 
 def arguments():
@@ -286,6 +311,7 @@ def arguments():
     parser.add_argument("--processors", type=int, default=4)
     parser.add_argument("--seconds", type=int, default=3600)
     parser.add_argument("--keep")
+    parser.add_argument("--from", dest="kept")
     parser.add_argument("--judge", default=f"{ROOT}/tool/target/release/hullpippin")
     parser.add_argument("--bplay", default=f"{ROOT}/crates/bd_play/out/bd_play")
     parser.add_argument("--document", action="store_true")
@@ -302,26 +328,27 @@ def main():
     if not os.access(given.bplay, os.X_OK):
         given.bplay = None
     folder = tempfile.mkdtemp(prefix="kernel-traffic-")
+    recordings = given.kept or f"{folder}/recordings"
     try:
-        kernel = Kernel(os.path.abspath(given.kernel), given.suite)
-        told = record(given, kernel, folder)
+        if not given.kept:
+            record(given, Kernel(os.path.abspath(given.kernel), given.suite), folder)
         if given.keep:
-            shutil.copytree(f"{folder}/recordings", given.keep, dirs_exist_ok=True)
-        seen, wrong = judge_all(given, folder, told)
-        spoiled = judge_spoiled(given, folder)
+            shutil.copytree(recordings, given.keep, dirs_exist_ok=True)
+        version, told = told_of(recordings)
+        seen, wrong = judge_all(given, folder, recordings, told)
+        spoiled = judge_spoiled(given, folder, recordings)
     except (Missing, NotRun, OSError) as why:
         print(f"kernel: {why}", file=sys.stderr)
         return 1
     finally:
         shutil.rmtree(folder, ignore_errors=True)
-    text = tell(given, kernel, seen, spoiled)
+    text = tell(given, version, seen, spoiled)
     print(text)
     if given.document:
-        if given.suite == SUITE:
-            document.write(ROOT, "traffic", text)
-        document.write_row(ROOT, "drivers", row_of(kernel, seen, spoiled))
-    print(f"kernel traffic: {len(seen)} recordings, {wrong + len(spoiled[1])} not as it should be")
-    return 0 if not wrong and not spoiled[1] else 1
+        document.write(ROOT, "traffic" if given.suite == SUITE else "traffic of a newer driver", text)
+        document.write_cells(ROOT, "drivers", version, cells_of(seen, spoiled))
+    print(f"kernel traffic: {len(seen)} recordings, {wrong + spoiled[2]} not as it should be")
+    return 0 if not wrong and not spoiled[2] else 1
 
 
 if __name__ == "__main__":

@@ -171,12 +171,15 @@ pub struct Judge {
 
 #[derive(Args)]
 pub struct Rules {
-    /// A script as the player takes it
+    /// A script as the player takes it, perhaps with reads that wait (`wait LIMIT`); - for standard input
     #[arg(value_name = "SCRIPT")]
     pub file: String,
     /// In which of docs/DIFFERENCES.md it goes Linux's way, with commas between them
     #[arg(long, value_name = "NAMES", default_value = "")]
     pub ways: String,
+    /// As the player prints it, or for each line at once a value of JSON, for a program that writes the next one by it
+    #[arg(long, value_enum, default_value = "text")]
+    pub format: Format,
 }
 
 #[derive(Args)]

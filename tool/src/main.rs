@@ -61,7 +61,8 @@ use out::{Out, Palette};
 use play::Player;
 use script::Setting;
 use show::Style;
-use std::io;
+use std::fs::File;
+use std::io::{self, BufRead, BufReader, Read, Write};
 use std::path::Path;
 use std::process::ExitCode;
 
@@ -276,10 +277,27 @@ fn script(given: &Script, out: &mut Out) -> Result<()> {
 }
 
 fn play_rules(given: &Rules, out: &mut Out) -> Result<()> {
-    let ways = rules::Ways::named(given.ways.split(',').filter(|it| !it.is_empty()))
-        .map_err(|name| anyhow::anyhow!("{name} is none of the differences in docs/DIFFERENCES.md"))?;
-    let text = std::fs::read_to_string(&given.file).with_context(|| given.file.clone())?;
+    let ways = rules::dialogue::ways_of(&given.ways)?;
+    let file = || File::open(&given.file).with_context(|| given.file.clone());
+    let mut from: Box<dyn Read> = if given.file == "-" { Box::new(io::stdin()) } else { Box::new(file()?) };
+    if given.format == Format::Json {
+        return talk_rules(ways, BufReader::new(from), out);
+    }
+    let mut text = String::new();
+    from.read_to_string(&mut text).with_context(|| given.file.clone())?;
     out.held.extend(rules::script::played(&text, ways)?.bytes());
+    Ok(())
+}
+
+/// Answers each line at once.
+fn talk_rules(ways: rules::Ways, from: impl BufRead, out: &mut Out) -> Result<()> {
+    let mut dialogue = rules::dialogue::Dialogue::new(ways);
+    for (index, line) in from.lines().enumerate() {
+        if let Some(value) = dialogue.answer(&line?).with_context(|| format!("line {}", index + 1))? {
+            writeln!(out.held, "{value}")?;
+            out.flush()?;
+        }
+    }
     Ok(())
 }
 

@@ -72,8 +72,12 @@ fn without_the_difference_that_it_needs_one_has_no_order() {
 
 /// Of each kind that no script shows the beginning of a recorded storm, up to where it comes about: with the differences that it needs,
 /// and with others, which don't do.
-const KINDS: [(&str, &str, &str); 3] =
-    [("numbered", "numbered,pieces", "pieces"), ("released", "released", "own_pid"), ("pieces", "pieces", "own_pid")];
+const KINDS: [(&str, &str, &str); 4] = [
+    ("numbered", "numbered,pieces", "pieces"),
+    ("released", "released", "own_pid"),
+    ("pieces", "pieces", "own_pid"),
+    ("held", "cleared,numbered,held", "cleared,numbered"),
+];
 
 #[test]
 fn kinds_that_no_script_shows_are_seen() {
@@ -109,6 +113,65 @@ fn the_order_is_a_journal_that_is_shown() {
     for beside in [".times", ".who"] {
         assert!(fs::metadata(format!("{}{beside}", order.path())).is_ok(), "{beside}");
         fs::remove_file(format!("{}{beside}", order.path())).expect("it was there");
+    }
+}
+
+/// binder-list, recorded alone: its manager and a service ran before.
+#[test]
+fn who_was_not_recorded_is_stood_in_for() {
+    let whole = recording("list");
+    let (file, order) = (kept("list.recording", &whole), kept("list.order", b""));
+    let told = printed(&["judge", file.path(), "--journal", order.path()]);
+    assert!(told.starts_with("2 processes, 2 threads, 37 steps: lawful\n"), "{told}");
+    assert!(told.contains("3 calls went to processes that weren't recorded: pid 16777215 stands in"), "{told}");
+    let calls = printed(&["calls", order.path()]);
+    assert_eq!(calls.matches("(not recorded)(16777215/16777215) manager").count(), 3, "{calls}");
+    assert!(printed(&["leaks", order.path()]).contains("nothing is held"));
+    for beside in [".times", ".who"] {
+        fs::remove_file(format!("{}{beside}", order.path())).expect("it was there");
+    }
+    // What the driver itself says has to follow from the rules all the same.
+    let (begin, size) = *answers(&whole).first().expect("an answer");
+    let mut spoiled = whole.clone();
+    spoiled[begin + size - 72] ^= 1;
+    assert!(verdict(&spoiled, &[]).0.contains(": un"), "a completion that is none");
+}
+
+/// The threads' files of a recording, but for those of the process that becomes the context manager.
+fn without_manager(whole: &[u8]) -> Vec<u8> {
+    let mut files: Vec<&[u8]> = Vec::new();
+    let mut at = 0;
+    while at < whole.len() {
+        let used = u64::from_le_bytes(whole[at + 8..at + 16].try_into().expect("eight bytes")) as usize;
+        files.push(&whole[at..at + used]);
+        at += used;
+    }
+    let becomes = |it: &&&[u8]| it.windows(4).any(|it| it == 0x4004_6207u32.to_le_bytes());
+    let manager = &files.iter().find(becomes).expect("a manager")[16..20];
+    files.iter().filter(|it| &it[16..20] != manager).flat_map(|it| it.to_vec()).collect()
+}
+
+/// Clients that were recorded without who answers them: one of one-way calls; one of whose calls one isn't answered, and one that is
+/// called back, whose answers no stand-in gives. That isn't called unlawful.
+#[test]
+fn clients_alone_are_judged_as_far_as_it_goes() {
+    let alone = [
+        ("oneway-20", "99 steps: lawful\n", "22 calls went to processes that weren't recorded"),
+        (
+            "waits",
+            "51 steps: unknown: no order was found beyond 41 steps\n",
+            "4 calls went to processes that weren't recorded",
+        ),
+        (
+            "nested-3",
+            "37 steps: unknown: no order was found beyond 3 steps\n",
+            "nobody who was recorded is the context manager",
+        ),
+    ];
+    for (name, verdict, why) in alone {
+        let file = kept(&format!("{name}-alone.recording"), &without_manager(&recording(name)));
+        let told = String::from_utf8(run(&["judge", file.path(), "--tries", "20000"]).stdout).expect("text");
+        assert!(told.contains(verdict) && told.contains(why), "{name}: {told}");
     }
 }
 

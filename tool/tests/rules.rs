@@ -1,12 +1,15 @@
 // SPDX-License-Identifier: Apache-2.0 OR MIT
-//! The model of the rules beside the player that HULLPIPPIN_PLAYER names: what both print of the worked examples, and of three hundred
-//! scripts that are made up here. `tool/check` runs what needs the player where there is one.
+//! The model of the rules beside the player that HULLPIPPIN_PLAYER names: what both print of the worked examples, of the scripts of the
+//! differences without their waiting, and of three hundred scripts that are made up here, others each time (HULLPIPPIN_SEED names the
+//! first). `tool/check` runs what needs the player where there is one.
 mod common;
 use common::*;
+use serde_json::Value;
 use std::fmt::Write as _;
 use std::fs;
 use std::path::{Path, PathBuf};
 use std::process::Command;
+use std::time::{SystemTime, UNIX_EPOCH};
 
 const EXAMPLES: &str = concat!(env!("CARGO_MANIFEST_DIR"), "/../examples");
 const KINDS: &str = concat!(env!("CARGO_MANIFEST_DIR"), "/../clients/kernel/kinds");
@@ -113,11 +116,40 @@ fn the_model_prints_what_the_player_prints() {
     assert!(differs.is_empty(), "{differs:#?}");
 }
 
+/// What a dialogue answers to the lines of a script.
+fn answers(script: &Path, ways: &str) -> Vec<Value> {
+    let done = fed(&["rules", "-", "--format", "json", "--ways", ways], &fs::read(script).expect("a script"));
+    assert!(done.status.success(), "{}", String::from_utf8_lossy(&done.stderr));
+    let lines = String::from_utf8(done.stdout).expect("text");
+    lines.lines().map(|it| serde_json::from_str(it).expect("a value")).collect()
+}
+
+/// What a script with waiting reads comes to is played by the player too: its requests in the order in which they are made.
+#[test]
+#[ignore = "it needs a player"]
+fn without_its_waiting_a_script_is_the_players() {
+    for script in scripts(KINDS) {
+        let (mut plain, mut expected) = ("seats 6\n".to_string(), Vec::new());
+        for answer in answers(&script, "") {
+            for it in answer["plain"].as_array().expect("requests") {
+                let _ = writeln!(plain, "{}", it[0].as_str().expect("a line"));
+                expected.push(format!("{}: {}", expected.len() + 2, it[1].as_str().expect("its answer")));
+            }
+        }
+        let file = kept("plain.script", plain.as_bytes());
+        assert_eq!(player(Path::new(file.path())).lines().collect::<Vec<_>>(), expected, "{}", script.display());
+    }
+}
+
 #[test]
 #[ignore = "it needs a player"]
 fn so_it_does_of_made_up_scripts() {
     let mut come_about = String::new();
-    for seed in 0..300 {
+    let first = match std::env::var("HULLPIPPIN_SEED") {
+        Ok(seed) => seed.parse().expect("a number"),
+        Err(_) => SystemTime::now().duration_since(UNIX_EPOCH).expect("a time").as_secs(),
+    };
+    for seed in first..first + 300 {
         let script = kept(&format!("made-{seed}.script"), made(seed, 150).as_bytes());
         let path = PathBuf::from(script.path());
         assert_eq!(difference(&path), None, "seed {seed}");
@@ -145,20 +177,64 @@ fn so_it_does_of_made_up_scripts() {
 #[test]
 fn each_switch_changes_what_its_script_prints() {
     let names = scripts(KINDS);
-    let names = || names.iter().filter_map(|it| it.file_stem()?.to_str()).filter(|it| *it != "waiter");
+    let names = || names.iter().filter_map(|it| it.file_stem()?.to_str());
     let all = names().collect::<Vec<_>>().join(",");
     let mut shown = 0;
     for script in scripts(KINDS) {
         let name = script.file_stem().and_then(|it| it.to_str()).expect("a name").to_string();
-        if fs::read_to_string(&script).expect("a script").contains(" wait ") {
-            continue;
-        }
         let path = script.to_str().expect("a path of letters");
         let others = names().filter(|it| *it != name).collect::<Vec<_>>().join(",");
         assert!(printed(&["rules", path, "--ways", &all]) != printed(&["rules", path, "--ways", &others]), "{name}");
         shown += 1;
     }
-    assert!(shown >= 15, "{shown} scripts");
+    assert_eq!(shown, 21);
+}
+
+/// What each line says to a program is what the script prints.
+#[test]
+fn a_dialogue_says_what_is_printed() {
+    for script in scripts(KINDS) {
+        let printed = printed(&["rules", script.to_str().expect("a path of letters"), "--ways", "waiter,notices"]);
+        let mut said = Vec::new();
+        for answer in answers(&script, "waiter,notices") {
+            let all = answer["said"].as_array().expect("answers");
+            said.push(all[0][1].as_str().expect("text").to_string());
+            said.extend(all[1..].iter().map(|it| format!("seat {} {}", it[0], it[1].as_str().expect("text"))));
+        }
+        let printed: Vec<&str> = printed.lines().map(|it| it.split_once(": ").expect("a number").1).collect();
+        assert_eq!(printed, said, "{}", script.display());
+    }
+}
+
+/// A seat that waits reads as soon as there is something: by the rules who waits longest, by the driver who has begun last.
+#[test]
+fn reads_that_wait_come_to_their_end() {
+    let script =
+        "seats 3\n0 open 100 0 4096\n0 manager\n1 attach 100\n2 open 200 0 4096\n0 enter\n1 enter\n0 wait 256\n\
+                  1 wait 256\n2 tx 0 7 1 6869 -\n";
+    let file = kept("waits.script", script.as_bytes());
+    let brought =
+        |ways: &str| printed(&["rules", file.path(), "--ways", ways]).lines().last().expect("a line").to_string();
+    assert!(brought("").starts_with("10: seat 0 got 0c720000027240"), "{}", brought(""));
+    assert!(brought("waiter").starts_with("10: seat 1 got 0c720000027240"), "{}", brought("waiter"));
+}
+
+/// Between two lines a program may ask what there is; parcels are called by who has read them.
+#[test]
+fn a_dialogue_tells_what_there_is() {
+    let script = "seats 2\n0 open 100 0 4096\n0 manager\n0 enter\n1 open 200 0 4096\n1 tx 0 7 0 - -\n0 read 256\n\
+                  0 free 65536\nstate\nways order\nseats 1\n0 open 300 0 4096\nstate\n";
+    let file = kept("state.script", script.as_bytes());
+    let told = answers(Path::new(file.path()), "");
+    assert_eq!(told[5]["said"][0][0], 0);
+    assert_eq!(told[6]["keyed"], "0 write 036308400000000000000080 -");
+    let seen = &told[7];
+    assert_eq!(seen["manager"], 100);
+    assert_eq!(seen["threads"][0]["serves"], true);
+    assert_eq!((&seen["threads"][1]["owed"], &seen["threads"][1]["ready"]), (&1.into(), &true.into()));
+    assert_eq!(seen["processes"][0]["objects"][0]["ptr"], 0);
+    assert_eq!(seen["processes"][0]["parcels"].as_array().expect("keys").len(), 0);
+    assert_eq!(told[9]["processes"].as_array().expect("processes").len(), 1);
 }
 
 #[test]

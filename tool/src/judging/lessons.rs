@@ -187,6 +187,7 @@ impl<'a> Lessons<'a> {
         };
         let got = match &step.wanted {
             Wanted::Got(got) => got,
+            Wanted::Call(_) | Wanted::Own => return,
             _ => return self.add(todo.first().and_then(|it| it.by.0), Some(own)),
         };
         let process = self.its_process(track).0;

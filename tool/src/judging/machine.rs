@@ -222,6 +222,8 @@ impl<'a> Machine<'a> {
         let list = space.list_to_read(seat);
         let got = match &step.wanted {
             Wanted::Got(got) => got,
+            Wanted::Call(caller) => return could_take(space, list, *caller as Seat),
+            Wanted::Own => return list == Some(List::Thread(seat)),
             _ => return list.is_none(),
         };
         let todo = match list.and_then(|it| space.list(it)) {
@@ -390,6 +392,10 @@ impl<'a> Machine<'a> {
         let (got, its) = match (space.read(seat, limit), &step.wanted) {
             (Err(12), Wanted::Nothing) => return Some(Came::Nothing),
             (Ok(got), Wanted::Got(its)) => (got, its),
+            (Ok(got), Wanted::Call(_) | Wanted::Own) => {
+                got.buffer.into_iter().for_each(|it| space.name_buffer(it, number + 1));
+                return Some(Came::Got(got));
+            }
             _ => return None,
         };
         let mut stream = got.stream.clone();
@@ -403,6 +409,23 @@ impl<'a> Machine<'a> {
         let is_so = same_returns(&its.stream, &stream) && its.data == got.data && its.offsets == got.offsets;
         Some(Came::Got(got)).filter(|_| is_so)
     }
+}
+
+/// Whether a process's list has a call of that thread's for who takes it next, perhaps behind notices.
+fn could_take(space: &Space, list: Option<List>, caller: Seat) -> bool {
+    let process = space.threads.get(caller).map(|it| it.process);
+    let is_its = |buffer: BufferId| {
+        space.buffer(buffer).map_or(false, |it| match it.frame {
+            Some(frame) => space.frames.get(frame).map_or(false, |it| it.caller == Some(caller)),
+            None => Some(it.sender) == process,
+        })
+    };
+    let todo = match list {
+        Some(List::Process(_)) => list.and_then(|it| space.list(it)),
+        _ => None,
+    };
+    let first = todo.and_then(|it| it.iter().map(|it| it.item).find(|it| !matches!(it, Item::Notice(_))));
+    matches!(first, Some(Item::Call(buffer)) if is_its(buffer))
 }
 
 /// Two streams of returns, of which one may begin without BR_NOOP, as a read of a second part does.

@@ -1,5 +1,6 @@
 // SPDX-License-Identifier: Apache-2.0 OR MIT
 //! Recordings of a real driver, judged by the rules.
+mod absent;
 pub mod files;
 mod lessons;
 mod machine;
@@ -110,7 +111,8 @@ impl Trial<'_> {
             are_none &= outcome.is_none;
             found.or(Verdict { tries: outcome.tries, recording, ways, outcome });
         }
-        found.outcome.is_none = are_none;
+        // Where others took part, another stand-in may do.
+        found.outcome.is_none = are_none && self.whole.is_whole();
     }
 
     fn verdict(&self) -> Result<Verdict> {
@@ -183,6 +185,24 @@ fn write_order(given: &Judge, found: &Verdict, order: &[u32], out: &mut Vec<u8>)
             Err(why) => writeln!(out, "not judged by the library: {why:#}")?,
         }
     }
+    writeln!(out, "next: hullpippin calls {path}; so with show, leaks, holders, stats, diagram")?;
+    Ok(())
+}
+
+/// Who took part and wasn't recorded.
+fn tell_absent(recording: &Recording, is_found: bool, out: &mut Vec<u8>) -> Result<()> {
+    let pid = absent::ABSENT;
+    match recording.absent {
+        0 if !is_found && !recording.has_manager() => writeln!(
+            out,
+            "nobody who was recorded is the context manager: others took part, and what they sent isn't known; record them too"
+        )?,
+        0 => {}
+        calls => writeln!(
+            out,
+            "{calls} calls went to processes that weren't recorded: pid {pid} stands in for all of them, and its answers are taken as they came"
+        )?,
+    }
     Ok(())
 }
 
@@ -207,6 +227,7 @@ pub fn judge(given: &Judge, out: &mut Vec<u8>) -> Result<u8> {
     for (what, count) in &recording.left_out {
         writeln!(out, "left out: {what}, {count} times")?;
     }
+    tell_absent(recording, outcome.order.is_some(), out)?;
     match &outcome.order {
         Some(order) => write_order(given, &found, order, out)?,
         None => {

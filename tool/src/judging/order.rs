@@ -158,6 +158,7 @@ impl Written {
         let place = self.count;
         let _ = match (&step.act, its.tid) {
             (Act::Attach, Some(tid)) => writeln!(self.who, "{place} {track} {pid} {tid} {}", spelled(&its.name)),
+            (Act::Attach, None) => writeln!(self.who, "{place} {track} {pid} {pid} {}", spelled(&its.name)),
             (Act::Open, _) => writeln!(self.who, "{place} {track} {pid} {pid} (process)"),
             _ => Ok(()),
         };

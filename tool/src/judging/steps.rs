@@ -84,6 +84,9 @@ pub enum Wanted {
     Done(bool),
     Got(Got),
     Nothing,
+    /// Of who wasn't recorded: a call of that track's thread, or what there is of its own.
+    Call(usize),
+    Own,
 }
 
 #[derive(Clone, Debug)]
@@ -113,10 +116,10 @@ pub struct Process {
     pub euid: u32,
     pub window: u64,
     pub device: String,
-    opened: u64,
-    open_end: u64,
-    last: u64,
-    closed: Option<u64>,
+    pub(super) opened: u64,
+    pub(super) open_end: u64,
+    pub(super) last: u64,
+    pub(super) closed: Option<u64>,
 }
 
 /// A thread's steps; or those of a process, which opens and ends: then there is no tid.
@@ -138,6 +141,8 @@ pub struct Recording {
     pub left_out: BTreeMap<String, u64>,
     pub is_traced: bool,
     pub ahead: u64,
+    /// How many calls went to processes that weren't recorded, for which one stands in.
+    pub absent: usize,
     of_file: HashMap<Opened, usize>,
     /// What was read into which process at which address: when, and which step that was.
     deliveries: HashMap<(usize, u64), Vec<(u64, u64)>>,
@@ -171,6 +176,7 @@ impl Recording {
         found.name_buffers();
         found.foresee();
         found.match_calls();
+        found.add_absent();
         found.add_processes();
         Ok(found)
     }

@@ -353,6 +353,7 @@ impl Space {
         }
         if let (0, Some(next)) = (at, next) {
             self.queue(Item::Call((buffer.0, next)), List::Process(buffer.0));
+            self.wake(buffer.0);
         }
     }
 

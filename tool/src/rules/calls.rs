@@ -161,13 +161,7 @@ impl Space {
         }
     }
 
-    fn commit_one_way(
-        &mut self,
-        seat: Seat,
-        target: Option<ObjectId>,
-        buffer: BufferId,
-        waiter: Option<Seat>,
-    ) -> Told {
+    fn commit_one_way(&mut self, seat: Seat, target: Option<ObjectId>, buffer: BufferId, waiter: Option<Seat>) -> Told {
         let is_suspect = self.buffer(buffer).map_or(false, |it| it.is_suspect);
         self.owe(seat, Item::Complete(is_suspect), false);
         let turns = target.and_then(|it| self.objects.get_mut(it)).map(|it| {
@@ -224,7 +218,7 @@ impl Space {
 
     /// A call gets its item: on the list of a thread that waits for it, else on its process's.
     fn call_comes(&mut self, buffer: BufferId, waiting: Option<Seat>) {
-        match waiting {
+        match waiting.or_else(|| self.wake(buffer.0)) {
             Some(seat) => self.owe(seat, Item::Call(buffer), false),
             None => self.queue(Item::Call(buffer), List::Process(buffer.0)),
         }

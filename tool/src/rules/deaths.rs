@@ -11,6 +11,7 @@ impl Space {
         if let Some(death) = self.death_mut(process, number) {
             death.phase = Phase::Queued;
             self.queue(Item::Death(number), List::Process(process));
+            self.wake(process);
         }
     }
 
@@ -26,6 +27,7 @@ impl Space {
         let has_entered = self.threads.get(seat).map_or(false, |it| it.has_entered);
         if self.does(Way::Cleared) && !has_entered {
             self.queue(Item::Cleared(cookie), List::Process(process));
+            self.wake(process);
         } else {
             self.owe(seat, Item::Cleared(cookie), false);
         }

@@ -10,6 +10,7 @@ impl Space {
 
     /// A thread's frames lose it, and its todo list goes.
     fn end_thread(&mut self, seat: Seat) {
+        self.end_wait(seat);
         let thread = match self.threads.remove(seat) {
             Some(thread) => thread,
             None => return,

@@ -10,8 +10,10 @@
 mod buffers;
 mod calls;
 mod deaths;
+pub mod dialogue;
 mod exits;
 mod objects;
+mod play;
 mod reading;
 pub mod script;
 mod table;
@@ -24,6 +26,7 @@ pub use table::Table;
 pub use ways::{Way, Ways, WAYS};
 pub use writing::Told;
 
+use std::cell::Cell;
 use std::collections::{BTreeMap, VecDeque};
 
 /// What of a pid is the process's own: who opens the device again has more in the bits above, so that no two have one pid.
@@ -91,6 +94,18 @@ impl PartialEq for By {
 
 impl Eq for By {}
 
+/// On which switches something has depended by now, for who plays scripts: it tells no two things apart.
+#[derive(Clone, Debug, Default)]
+pub struct Asked(Cell<Ways>);
+
+impl PartialEq for Asked {
+    fn eq(&self, _: &Asked) -> bool {
+        true
+    }
+}
+
+impl Eq for Asked {}
+
 #[derive(Clone, Copy, Debug, PartialEq, Eq)]
 pub enum List {
     Thread(Seat),
@@ -140,6 +155,9 @@ pub struct Process {
     pub unnamed: Vec<(Seat, u32)>,
     /// Of a number that was taken away, which steps have taken references from its name last.
     pub freed: BTreeMap<u32, Past>,
+    /// Threads whose reads wait for whatever comes to the process, the latest first (`Way::Waiter`). Recordings have none: what a read
+    /// has brought tells who waited.
+    pub waiters: Vec<Seat>,
 }
 
 #[derive(Clone, Debug, PartialEq, Eq)]
@@ -281,6 +299,9 @@ pub struct Space {
     touched: Vec<ObjectId>,
     /// How many things the step has made.
     things: u32,
+    /// Threads that the driver has woken, and whose reads haven't come to their end yet.
+    pub woken: Vec<Seat>,
+    asked: Asked,
 }
 
 /// A request but a write and a read, which are calls of their own.
@@ -311,11 +332,19 @@ impl Space {
             manager: None,
             touched: Vec::new(),
             things: 0,
+            woken: Vec::new(),
+            asked: Asked::default(),
         }
     }
 
     pub fn does(&self, way: Way) -> bool {
+        self.asked.0.set(self.asked.0.get().with(way));
         self.ways.has(way)
+    }
+
+    /// On which switches something has depended by now.
+    pub fn asked(&self) -> Ways {
+        self.asked.0.get()
     }
 
     /// Begins a step, which `number` tells from all others.
@@ -389,6 +418,7 @@ impl Space {
             told: Vec::new(),
             unnamed: Vec::new(),
             freed: BTreeMap::new(),
+            waiters: Vec::new(),
         };
         self.processes.insert(number, process);
     }
@@ -476,6 +506,34 @@ impl Space {
             thread.todo.push_back(Listed { item, by });
             thread.is_due = thread.is_due || !is_deferred;
         }
+    }
+
+    // ------------------------------------------------------------ reads that wait
+
+    /// A thread's read begins to wait: for whatever comes to its process, unless something of its own is under way.
+    pub fn begin_to_wait(&mut self, seat: Seat) {
+        let is_idle = self.threads.get(seat).map_or(false, |it| it.todo.is_empty()) && self.innermost(seat).is_none();
+        if let (true, Some(process)) = (is_idle, self.threads.get(seat).map(|it| it.process)) {
+            self.process_mut(process, |it| it.waiters.insert(0, seat));
+        }
+    }
+
+    pub fn end_wait(&mut self, seat: Seat) {
+        let process = self.threads.get(seat).map_or(0, |it| it.process);
+        if self.processes.get(process).map_or(false, |it| it.waiters.contains(&seat)) {
+            self.process_mut(process, |it| it.waiters.retain(|it| *it != seat));
+        }
+    }
+
+    /// The driver wakes the thread that began to wait last.
+    pub(super) fn wake(&mut self, process: ProcessId) -> Option<Seat> {
+        let seat = self.processes.get(process)?.waiters.first().copied()?;
+        if !self.does(Way::Waiter) {
+            return None;
+        }
+        self.process_mut(process, |it| it.waiters.retain(|it| *it != seat));
+        self.woken.push(seat);
+        Some(seat)
     }
 
     // ------------------------------------------------------------ the end of a step

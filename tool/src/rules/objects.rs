@@ -270,6 +270,7 @@ impl Space {
         if it.owner_lives && (it.told[WEAK] || it.told[STRONG]) {
             if it.notice.is_none() {
                 self.queue_notice(object, List::Process(object.0));
+                self.wake(object.0);
             }
         } else if !it.is_held() {
             self.remove_object(object);
@@ -310,6 +311,7 @@ impl Space {
             self.take_back(object);
         } else if is_wrong && !has_notice && !is_lost {
             self.queue_notice(object, List::Process(object.0));
+            self.wake(object.0);
         }
     }
 

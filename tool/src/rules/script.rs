@@ -1,8 +1,9 @@
 // SPDX-License-Identifier: Apache-2.0 OR MIT
-//! A plain script (docs/FORMATS.md) played on the model, which prints what the proved player prints.
+//! A plain script (docs/FORMATS.md) played on the model, which prints what the proved player prints. It may have one verb more:
+//! `wait LIMIT` is a read that waits until there is something.
+use super::play::Play;
 use super::*;
 use crate::codes::*;
-use crate::mail::Mailboxes;
 use crate::record::{Record, RECORD_SIZE};
 use anyhow::{bail, Context, Result};
 use std::fmt::Write as _;
@@ -12,6 +13,8 @@ use std::fmt::Write as _;
 pub enum Line {
     Request(Request),
     Read(u32),
+    /// A read that waits until there is something.
+    Wait(u32),
     Write(Vec<u8>, Vec<u8>),
     Look,
     Await(u64),
@@ -123,6 +126,7 @@ pub fn line_of(words: &[&str]) -> Result<Line> {
         "exitthread" => Line::Request(Request::ExitThread),
         "exitprocess" => Line::Request(Request::ExitProcess),
         "read" => Line::Read(number(words, 1)?),
+        "wait" => Line::Wait(number(words, 1)?),
         "write" => Line::Write(bytes(words, 1)?, bytes(words, 2)?),
         "tx" | "reply" => sending(words)?,
         "look" => Line::Look,
@@ -135,129 +139,50 @@ pub fn line_of(words: &[&str]) -> Result<Line> {
     })
 }
 
-fn hex(bytes: &[u8]) -> String {
-    if bytes.is_empty() {
-        return "-".into();
-    }
-    bytes.iter().fold(String::with_capacity(2 * bytes.len()), |mut text, it| {
-        let _ = write!(text, "{it:02x}");
-        text
-    })
+/// A line of a script.
+pub enum Spoken {
+    /// It is empty, or a remark.
+    Nothing,
+    Seats(Seat),
+    Line(Seat, Line),
 }
 
-/// A space with the mailboxes beside it.
-pub struct Play {
-    pub space: Space,
-    seats: Seat,
-    mail: Mailboxes<Line>,
+/// What a line of a script says, for so many seats.
+pub fn spoken(line: &str, seats: Option<Seat>) -> Result<Spoken> {
+    let words: Vec<&str> = line.split(' ').filter(|it| !it.is_empty()).collect();
+    if words.is_empty() || line.starts_with('#') {
+        return Ok(Spoken::Nothing);
+    }
+    if words[0] == "seats" {
+        return Ok(Spoken::Seats(number(&words, 1)?));
+    }
+    let seats = seats.context("the first line has to be `seats N`")?;
+    let seat: Seat = number(&words, 0)?;
+    if seat >= seats {
+        bail!("there are {seats} seats");
+    }
+    Ok(Spoken::Line(seat, line_of(&words[1..])?))
 }
 
-impl Play {
-    pub fn new(seats: Seat, ways: Ways) -> Play {
-        Play { space: Space::new(ways), seats, mail: Mailboxes::new() }
-    }
-
-    fn asked(&mut self, seat: Seat, line: &Line) -> String {
-        let from = self.space.made();
-        let told = match line {
-            Line::Request(request) => {
-                self.space.begin(from);
-                let done = match request {
-                    Request::Open { .. } | Request::Attach { .. } => "opened",
-                    Request::SetManager | Request::SetSpam(_) => "set",
-                    _ => "exited",
-                };
-                self.space.request(seat, *request).map_or_else(|fault| format!("refused F{fault}"), |()| done.into())
-            }
-            Line::Read(limit) => {
-                self.space.begin(from);
-                match self.space.read(seat, *limit) {
-                    Ok(got) => format!("got {} {} {}", hex(&got.stream), hex(&got.data), hex(&got.offsets)),
-                    Err(fault) => format!("refused F{fault}"),
-                }
-            }
-            Line::Write(stream, area) => return self.wrote(seat, stream, area),
-            _ => return "idle".into(),
-        };
-        format!("{told} {from} {}", self.space.made())
-    }
-
-    fn wrote(&mut self, seat: Seat, stream: &[u8], area: &[u8]) -> String {
-        let from = self.space.made();
-        let wrote = match self.space.write(seat, stream, area) {
-            Ok(wrote) => wrote,
-            Err(fault) => return format!("refused F{fault} {from} {}", self.space.made()),
-        };
-        let mut told = format!("wrote {} {from} {}", wrote.consumed, self.space.made());
-        for (index, note) in &wrote.notes {
-            let _ = write!(told, " {index}:N{note}");
-        }
-        match wrote.stop {
-            Some(('E', _)) => told.push_str(" stop EINVAL"),
-            Some((letter, number)) => {
-                let _ = write!(told, " stop {letter}{number}");
-            }
-            None => {}
-        }
-        told
-    }
-
-    fn serve(&mut self) -> String {
-        let posted = self.mail.take_posted();
-        let served = posted.len();
-        for (seat, line) in posted {
-            let told = self.asked(seat, &line);
-            self.mail.answer(seat, told);
-        }
-        format!("served {served}")
-    }
-
-    fn look(&self) -> String {
-        let is_ready = |seat: &Seat| self.space.list_to_read(*seat).is_some();
-        let ready: u64 = (0..self.seats).filter(is_ready).map(|it| 1 << it).sum();
-        format!("page {} {ready} 0", self.space.made())
-    }
-
-    /// What a line prints.
-    fn line(&mut self, seat: Seat, line: Line) -> String {
-        match line {
-            Line::Look => self.look(),
-            Line::Await(stamp) if self.space.made() >= stamp => "passed".into(),
-            Line::Await(_) => "turns".into(),
-            Line::Serve => self.serve(),
-            Line::Collect => self.mail.fetch(seat, false),
-            Line::Withdraw => self.mail.fetch(seat, true),
-            _ if self.mail.has(seat) => "idle".into(),
-            Line::Post(line) => self.mail.post(seat, *line),
-            line => self.asked(seat, &line),
-        }
-    }
-}
-
-/// Plays a script: what its lines print. A line that waits in vain is its last.
+/// Plays a script: what its lines print. A line that waits in vain for a stamp is its last.
 pub fn played(text: &str, ways: Ways) -> Result<String> {
-    let (mut play, mut told) = (None, String::new());
+    let (mut play, mut told): (Option<Play>, String) = (None, String::new());
     for (index, line) in text.lines().enumerate() {
-        let words: Vec<&str> = line.split(' ').filter(|it| !it.is_empty()).collect();
-        if words.is_empty() || line.starts_with('#') {
-            continue;
-        }
-        let at = || format!("line {}", index + 1);
-        if words[0] == "seats" {
-            play = Some(Play::new(number(&words, 1).with_context(at)?, ways));
-            continue;
-        }
-        let play: &mut Play = match &mut play {
-            Some(play) => play,
-            None => bail!("line {}: the first line has to be `seats N`", index + 1),
+        let number = index + 1;
+        let spoken = spoken(line, play.as_ref().map(Play::seats)).with_context(|| format!("line {number}"))?;
+        let said = match (spoken, &mut play) {
+            (Spoken::Seats(seats), play) => {
+                *play = Some(Play::new(seats, ways));
+                continue;
+            }
+            (Spoken::Line(seat, line), Some(play)) => play.line(seat, line),
+            _ => continue,
         };
-        let seat: Seat = number(&words, 0).with_context(at)?;
-        if seat >= play.seats {
-            bail!("line {}: there are {} seats", index + 1, play.seats);
+        let _ = writeln!(told, "{number}: {}", said.own);
+        for (seat, text) in &said.others {
+            let _ = writeln!(told, "{number}: seat {seat} {text}");
         }
-        let said = play.line(seat, line_of(&words[1..]).with_context(at)?);
-        let _ = writeln!(told, "{}: {said}", index + 1);
-        if said == "turns" {
+        if said.own == "turns" {
             break;
         }
     }

@@ -3,6 +3,9 @@
 //!
 //! It follows the answers that the journal has, by the rules of docs/RULES.md, and judges none of them. Of a lawful journal
 //! it comes to what the rules give. Of any other it comes to something: what it doesn't find it passes over.
+//!
+//! That is why it isn't the machine of `rules`, which answers by itself and stops where a journal goes on otherwise; and why it
+//! knows what the machine forgets: where each thing was made, read and freed, and by whom, which an index keeps for millions of steps.
 mod buffers;
 mod exits;
 mod names;
