@@ -66,18 +66,15 @@ static void wrap(struct parcel *parcel, const struct objects *objects, struct wo
     parcel->offsets_size = 8 * layout->known;
 }
 
-/* Copies `size` bytes from a place in the area, and zeros up to a multiple of 8. What isn't mapped here is read: that fills no hole which
-   the client has left there. */
+/* Copies `size` bytes from a place in the area. What isn't mapped here is read: that fills no hole which the client has left there. What
+   stands between the parts nobody reads: the library has zeros there. */
 static bool copy_part(uint8_t *to, const struct thread *thread, uint64_t place, uint64_t size)
 {
     uint64_t mapped = place < AREA_MAPPED ? AREA_MAPPED - place : 0, copied = size < mapped ? size : mapped;
     off_t from = (off_t)(offsetof(struct page, area) + place + copied);
     if (copied)
         page_copy(to, thread->page->area + place, copied);
-    if (copied < size && pread(thread->memory, to + copied, size - copied, from) != (ssize_t)(size - copied))
-        return false;
-    memset(to + size, 0, round8(size) - size);
-    return true;
+    return copied == size || pread(thread->memory, to + copied, size - copied, from) == (ssize_t)(size - copied);
 }
 
 static bool is_inside(uint64_t place, uint64_t size)
