@@ -106,7 +106,7 @@ static size_t send_calls(size_t count)
     return sent;
 }
 
-/* Objects that the taker keeps by its own references alone, if it does; or that are in calls which nobody reads. */
+/* Objects that are in calls which nobody reads; or that the taker keeps, by its own references alone where it doesn't watch them too. */
 static size_t send_objects(size_t count, bool keeps, bool watches)
 {
     static uint64_t next = 8;
@@ -124,7 +124,7 @@ static size_t send_objects(size_t count, bool keeps, bool watches)
         }
         struct calling call = {BC_TRANSACTION, {.flags = TF_ONE_WAY, .data_size = OBJECTS * sizeof *objects, .offsets_size = OBJECTS * 8,
                                              .data.ptr = {.buffer = 0, .offsets = OBJECTS * sizeof *objects}}};
-        if (!write_all(&sender, &call, sizeof call) || (keeps && !(write_all(&taker, keep, sizeof keep) && give_back(&taker)))
+        if (!write_all(&sender, &call, sizeof call) || (keeps && !(write_all(&taker, keep, sizeof keep) && (watches || give_back(&taker))))
             || (watches && !write_all(&taker, watch, sizeof watch)))
             break;
         sent += OBJECTS;
