@@ -70,7 +70,7 @@ pub enum Word {
     Show(Show),
     /// Tells why an entry was answered so, or what a name means: X6, BadObject, BR_FAILED_REPLY
     Explain(Explain),
-    /// Prints what each process has at a place: handles, objects, buffers, what is unread
+    /// Prints what each process has, at the end or at another place: handles, objects, buffers, what is unread
     State(State),
     /// Prints all that holds an object
     Holders(Holders),
@@ -80,15 +80,15 @@ pub enum Word {
     Calls(Called),
     /// Counts commands, returns, refusals, and calls by who calls whom with which code
     Stats(Stats),
-    /// Prints the calls that took most entries, and those still open
+    /// Prints the calls that took longest, and those still open
     Slow(Slow),
     /// Writes a recording in the form of another program
     Export(Export),
     /// Draws a recording: as one page of HTML with search, zoom and hiding, as a picture, for Mermaid, or for a terminal
     Diagram(Diagram),
-    /// Tells the calls of a daemon that runs, a line each: of a program that it runs, or of all
+    /// Tells calls as they end, a line each: of a program that it runs, of a daemon, or with --kernel of Linux's own driver
     Trace(Trace),
-    /// Shows who calls whom how often in a daemon that runs, and how long that takes
+    /// Shows who calls whom how often, and how long that takes: in a daemon that runs, or with --kernel in Linux's own driver
     #[cfg(feature = "top")]
     Top(Top),
     /// Ends a kernel's tracing once who has begun it has ended

@@ -145,6 +145,7 @@ impl Chronicle<'_> {
             comms: comms.iter().map(|it| &**it).chain(processes.into_iter().flatten()).collect(),
             code: call.code,
             interface: call.object.and_then(|it| objects.interface(it)),
+            called: call.object.and_then(|it| objects.called(it)),
             has_failed: matches!(end.ending, Ending::Failed | Ending::Refused(_)) || is_refused(call),
         };
         if self.wanted.has(&subject) {

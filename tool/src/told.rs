@@ -16,7 +16,7 @@ pub struct Wanted {
     /// Only calls with this code: 7, 0x7 or four letters, as _PNG
     #[arg(long, value_name = "CODE", value_parser = code)]
     pub code: Option<u32>,
-    /// Only calls on this interface, as android.os.IServiceManager or IServiceManager; repeat it for more
+    /// Only calls on this interface, as android.os.IServiceManager or IServiceManager, or to what the lines call so; repeat it for more
     #[arg(long, value_name = "NAME")]
     pub interface: Vec<String>,
     /// Only refused calls, and calls without a reply
@@ -31,6 +31,8 @@ pub struct Subject<'a> {
     pub comms: Vec<&'a str>,
     pub code: u32,
     pub interface: Option<&'a str>,
+    /// What its line calls the object that is called.
+    pub called: Option<&'a str>,
     pub has_failed: bool,
 }
 
@@ -44,12 +46,16 @@ impl Wanted {
         (self.pid.is_empty() || it.pids.iter().any(|pid| self.pid.contains(pid)))
             && (self.comm.is_empty() || it.comms.iter().any(|comm| self.comm.iter().any(|word| word == comm)))
             && self.code.map_or(true, |code| code == it.code)
-            && (self.interface.is_empty() || self.is_on(it.interface))
+            && (self.interface.is_empty() || self.is_on(it.interface) || self.is_to(it.called))
             && (!self.failed || it.has_failed)
     }
 
     fn is_on(&self, interface: Option<&str>) -> bool {
         interface.map_or(false, |it| self.interface.iter().any(|word| is_meant(it, word)))
+    }
+
+    fn is_to(&self, called: Option<&str>) -> bool {
+        called.map_or(false, |it| self.interface.iter().any(|word| word == it))
     }
 }
 
@@ -139,7 +145,8 @@ mod tests {
 
     fn subject() -> Subject<'static> {
         let comms = vec!["main", "Binder:7_1"];
-        Subject { pids: vec![7, 8], comms, code: 3, interface: Some("android.os.IServiceManager"), has_failed: false }
+        let interface = Some("android.os.IServiceManager");
+        Subject { pids: vec![7, 8], comms, code: 3, interface, called: Some("manager"), has_failed: false }
     }
 
     fn wanted(change: impl Fn(&mut Wanted)) -> bool {
@@ -157,6 +164,7 @@ mod tests {
         assert!(wanted(|it| it.interface = vec!["IServiceManager".into()]));
         assert!(wanted(|it| it.interface = vec!["android.os.IServiceManager".into()]));
         assert!(!wanted(|it| it.interface = vec!["ServiceManager".into()]));
+        assert!(wanted(|it| it.interface = vec!["manager".into()]) && !wanted(|it| it.interface = vec!["age".into()]));
         assert!(!wanted(|it| it.failed = true));
         assert!(!wanted(|it| (it.pid, it.code) = (vec![7], Some(4))));
     }

@@ -339,7 +339,10 @@ fn a_recording_is_told_by_its_calls() {
     let line =
         "11:03:10.000000 Binder:200_1 x(200/215) -> manager(100/100) manager#3 112 B = 4 B <1.2 ms, 13.1 us unread>\n";
     assert_eq!(printed(&["calls", recorded.path()]), line);
-    for words in [["--interface", "IServiceManager"], ["--comm", "manager"], ["--code", "3"], ["--pid", "100"]] {
+    let of_service = ["--interface", "manager"];
+    for words in
+        [["--interface", "IServiceManager"], of_service, ["--comm", "manager"], ["--code", "3"], ["--pid", "100"]]
+    {
         assert_eq!(printed(&[&["calls", recorded.path()][..], &words].concat()), line, "{words:?}");
     }
     for words in

@@ -6,6 +6,7 @@ use common::*;
 use std::collections::{BTreeMap, HashMap};
 use std::fs;
 use std::path::PathBuf;
+use std::sync::atomic::{AtomicUsize, Ordering::Relaxed};
 
 const VERSIONS: [&str; 3] = ["5.10", "6.1", "6.12"];
 /// All samples that are events.
@@ -644,7 +645,8 @@ fn a_bad_line_is_named_and_what_stands_before_it_is_told() {
 fn unpacked(name: &str) -> Kept {
     let packed = std::process::Command::new("gzip").args(["-dc", &sample(name)]).output().expect("gzip");
     assert!(packed.status.success(), "{name}");
-    kept("unpacked", &packed.stdout)
+    static COUNT: AtomicUsize = AtomicUsize::new(0);
+    kept(&format!("unpacked-{}", COUNT.fetch_add(1, Relaxed)), &packed.stdout)
 }
 
 /// What trace-cmd and perf have recorded of a ping, each in its own form, by these programs where they are there.
@@ -709,4 +711,50 @@ fn a_refused_reply_is_not_the_end_of_the_call_that_is_waited_for() {
     let wanted = "1.000060 some(7/7) -> nobody = BR_FAILED_REPLY\n\
         1.000010 some(7/7) -> some(9/9) node 3#5 8 B = a reply <80.0 us, 30.0 us unread>\n";
     assert_eq!(told, wanted);
+}
+
+/// A line of a call without what may differ: its times, and what threads are called, which a command line tells in place of a name.
+fn bare(line: &str) -> String {
+    let line = line.split_once(' ').map_or("", |it| it.1);
+    let (call, behind) =
+        line.split_once(" <").map_or((line, ""), |(call, rest)| (call, rest.split_once('>').map_or("", |it| it.1)));
+    let words = call.split(' ').map(|it| it.find('(').map_or(it, |at| &it[at..]));
+    words.chain([behind]).collect::<Vec<_>>().join(" ")
+}
+
+/// What Perfetto has recorded of the calls that an instance of text has beside it, in which the clock is read at another moment.
+#[test]
+fn a_trace_of_perfettos_tells_the_calls_that_its_text_does() {
+    for (set, has_commands) in [("whole", true), ("phone", false)] {
+        let perfetto = unpacked(&format!("6.12/{set}.perfetto-trace.gz"));
+        let calls = told(&["calls", perfetto.path()]);
+        let beside = unpacked(&format!("6.12/{set}.beside.gz"));
+        let wanted = told(&["calls", beside.path()]);
+        // Those of a phone's settings don't tell which object a call hands over.
+        let of = |line: &str| if has_commands { bare(line) } else { bare(line.split(" [").next().unwrap_or("")) };
+        let lines = |text: &str| text.lines().map(of).collect::<Vec<_>>();
+        assert_eq!(lines(&calls), lines(&wanted), "{calls}{wanted}");
+        assert!(calls.contains(" _PNG ") && calls.contains(" B = "), "{calls}");
+        let stats = told(&["stats", perfetto.path()]);
+        assert_eq!(stats.contains("  BC_TRANSACTION\n"), has_commands, "{stats}");
+        for words in [&["slow"][..], &["diagram"], &["export", "--format", "perfetto"], &["top", "--file"]] {
+            assert!(!told(&[words, &[perfetto.path()]].concat()).is_empty(), "{words:?}");
+        }
+    }
+}
+
+/// Bytes of it changed at many places, and cut off.
+#[test]
+fn a_hostile_trace_of_perfettos_ends_with_a_named_error() {
+    let whole = fs::read(unpacked("6.12/phone.perfetto-trace.gz").path()).expect("it");
+    let cut = kept("cut.perfetto-trace", &whole[..whole.len() - 1]);
+    assert!(fault(&["calls", cut.path()]).contains("breaks off; it is left out"));
+    for at in (64..whole.len()).step_by(whole.len() / 64) {
+        let mut bytes = whole.clone();
+        bytes[at] ^= 0x55;
+        let done = run(&["calls", kept("hostile.perfetto-trace", &bytes).path()]);
+        let said = String::from_utf8_lossy(&done.stderr).into_owned();
+        assert!(matches!(done.status.code(), Some(0 | 1)) && !said.contains("panicked"), "{at}: {said}");
+        assert!(done.status.code() == Some(0) || said.contains("hullpippin: "), "{at}: {said}");
+    }
 }

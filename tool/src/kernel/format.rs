@@ -2,6 +2,7 @@
 //! Which form a file has, told by how it begins, not by its name.
 use super::ftrace;
 use super::lines::words;
+use super::perfetto::varint;
 use anyhow::{Context, Result};
 use std::fs::File;
 use std::io::{self, BufRead, Read};
@@ -52,7 +53,7 @@ impl Format {
 
     /// Whether it tells events one after the other.
     pub fn is_trace(self) -> bool {
-        matches!(self, Format::Trace | Format::Page | Format::TraceCmd | Format::PerfData)
+        matches!(self, Format::Trace | Format::Page | Format::TraceCmd | Format::PerfData | Format::Perfetto)
     }
 }
 
@@ -113,14 +114,6 @@ fn is_perfetto(head: &[u8]) -> bool {
         }
     }
     head.iter().any(|it| *it < 9)
-}
-
-/// A number in groups of seven bits, the lowest first, and what stands behind it.
-fn varint(bytes: &[u8]) -> Option<(u64, &[u8])> {
-    const MOST: usize = 10;
-    let end = bytes.iter().take(MOST).position(|it| it & 0x80 == 0)?;
-    let value = bytes[..=end].iter().rev().fold(0u64, |sum, it| sum << 7 | u64::from(it & 0x7f));
-    Some((value, &bytes[end + 1..]))
 }
 
 trait TrimStart {

@@ -11,6 +11,7 @@ pub mod lines;
 pub mod log;
 pub mod look;
 pub mod names;
+pub mod perfetto;
 pub mod report;
 pub mod state;
 mod threads;
@@ -56,7 +57,6 @@ pub fn trace_of(path: &str) -> Result<Option<Trace>> {
 /// What may be done with a file of another form than a command reads.
 pub fn advice(format: Format) -> String {
     let what = match format {
-        Format::Perfetto => "which isn't read: export it as systrace's text (traceconv systrace)",
         Format::Gzip => "which isn't read: gunzip unpacks it",
         Format::Stats => "which `stats` reads",
         Format::State | Format::Transactions => "which `state`, `holders` and `leaks` read",

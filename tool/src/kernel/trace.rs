@@ -2,9 +2,10 @@
 //! A kernel's trace that is gone through, line by line, with what its events come to.
 use super::following::Following;
 use super::format::Format;
-use super::ftrace::{self, What};
+use super::ftrace::{self, Line, What};
 use super::lines::{shown, Lines};
 use super::names;
+use super::perfetto::Recording;
 use super::verbs;
 use crate::calls::Event;
 use crate::play::{name, Range};
@@ -12,7 +13,7 @@ use crate::times::{Moment, TimeWord};
 use anyhow::{bail, Context, Result};
 use std::collections::HashMap;
 use std::fs::File;
-use std::io::{self, BufReader};
+use std::io::{self, BufRead, BufReader};
 use std::process::{Child, Command, Stdio};
 
 /// How much is read together.
@@ -37,8 +38,11 @@ pub struct Reader {
     /// Lines that are no events, how many, and which was the first.
     strange: u64,
     first_strange: Option<(u64, String)>,
-    /// Events that the kernel had no room for.
+    /// Events that the kernel had no room for; and how often it had none, where nothing tells how many these were.
     lost: u64,
+    gaps: u64,
+    /// Packets that Perfetto has compressed.
+    compressed: u64,
     /// How many events of Binder's there were.
     pub count: u64,
     events: Vec<Event>,
@@ -79,8 +83,19 @@ impl Reader {
             let event = String::from_utf8_lossy(line.event).into_owned();
             anyhow::anyhow!("line {number}: {event} {it}: {}", shown(line.rest))
         })?;
+        self.take(number, &line, what, call)
+    }
+
+    /// Takes an event of Binder's, and calls this for what it has told.
+    fn take(
+        &mut self,
+        number: u64,
+        line: &Line<'_>,
+        what: What,
+        call: &mut dyn FnMut(Seen<'_>, &Following) -> Result<()>,
+    ) -> Result<()> {
         self.count += 1;
-        self.following.event(number, &line, what, &mut self.events)?;
+        self.following.event(number, line, what, &mut self.events)?;
         let told = match what {
             What::Command(code) => verbs::command(code),
             What::Return(code) => verbs::returned(code),
@@ -126,6 +141,15 @@ impl Reader {
                 self.lost
             );
         }
+        if self.gaps > 0 {
+            eprintln!(
+                "hullpippin: {path}: the kernel has lost events, {} times, so calls are missing or stay open",
+                self.gaps
+            );
+        }
+        if self.compressed > 0 {
+            eprintln!("hullpippin: {path}: {} packets are compressed, and aren't read", self.compressed);
+        }
         if self.following.given_up > 0 {
             let count = self.following.given_up;
             eprintln!("hullpippin: {path}: too many calls were open at once; the {count} oldest were given up");
@@ -147,6 +171,8 @@ pub struct Trace {
     path: String,
     format: Format,
     lines: Lines<'static>,
+    /// What a trace of Perfetto's has, which has no lines.
+    recording: Option<Recording>,
     pub reader: Reader,
     child: Option<Child>,
     /// Whether one is within the part of a page that has events.
@@ -184,16 +210,29 @@ fn printed(path: &str, format: Format) -> Result<(Lines<'static>, Option<Child>)
     Ok((Lines::new(Box::new(BufReader::with_capacity(ROOM, output))), Some(child)))
 }
 
+/// What a trace of Perfetto's tells.
+fn recorded(path: &str) -> Result<Recording> {
+    let of = |input: Box<dyn BufRead>| Recording::read(input).with_context(|| name(path));
+    match path {
+        "-" => of(Box::new(BufReader::with_capacity(ROOM, io::stdin()))),
+        _ => of(Box::new(BufReader::with_capacity(ROOM, File::open(path).with_context(|| path.to_string())?))),
+    }
+}
+
 impl Trace {
     pub fn open(path: &str, format: Format) -> Result<Trace> {
+        let recording = if format == Format::Perfetto { Some(recorded(path)?) } else { None };
         let (lines, child) = match format {
+            Format::Perfetto => (Lines::new(Box::new(io::empty())), None),
             Format::TraceCmd | Format::PerfData => printed(path, format)?,
             _ if path == "-" => (Lines::new(Box::new(BufReader::with_capacity(ROOM, io::stdin()))), None),
             _ => (file(path)?, None),
         };
+        let has_lines = path != "-" && child.is_none() && recording.is_none();
+        let reader = Reader::default();
         let mut trace =
-            Trace { path: path.into(), format, lines, reader: Reader::default(), child, is_within: false, first: None };
-        if path != "-" && trace.child.is_none() {
+            Trace { path: path.into(), format, lines, recording, reader, child, is_within: false, first: None };
+        if has_lines {
             trace.look_ahead()?;
         }
         Ok(trace)
@@ -262,6 +301,9 @@ impl Trace {
         if let Some(to) = range.to.filter(|it| *it < range.from) {
             bail!("--to {to} lies before --from {}", range.from);
         }
+        if self.recording.is_some() {
+            return self.go_through_packets(range, call);
+        }
         while let Some(bytes) = self.lines.next()? {
             // The line is held by `lines`, of which the rest of this has no need.
             let bytes = bytes.to_vec();
@@ -274,6 +316,32 @@ impl Trace {
             }
             let mut bounds = Bounded { range, first: &mut self.first, is_over: false, call };
             self.reader.line(number, &bytes, &mut |seen, following| bounds.pass(number, seen, following))?;
+            if bounds.is_over {
+                return Ok(());
+            }
+        }
+        self.reader.end(call)
+    }
+
+    /// The same of a trace of Perfetto's, whose events have numbers from 1 in order of time.
+    fn go_through_packets(
+        &mut self,
+        range: Range,
+        call: &mut dyn FnMut(Seen<'_>, &Following) -> Result<()>,
+    ) -> Result<()> {
+        let recording = match &self.recording {
+            Some(recording) => recording,
+            None => return Ok(()),
+        };
+        self.reader.gaps = recording.gaps;
+        self.reader.compressed = recording.compressed;
+        for (number, event) in (1..).zip(&recording.events) {
+            if range.to.map_or(false, |it| number >= it) {
+                return Ok(());
+            }
+            let mut bounds = Bounded { range, first: &mut self.first, is_over: false, call };
+            let mut pass = |seen: Seen<'_>, following: &Following| bounds.pass(number, seen, following);
+            self.reader.take(number, &recording.line(event), event.what, &mut pass)?;
             if bounds.is_over {
                 return Ok(());
             }
@@ -296,6 +364,9 @@ impl Trace {
         }
         if self.reader.count == 0 {
             bail!("there is no event of Binder's in it");
+        }
+        if let Some(at) = self.recording.as_ref().and_then(|it| it.cut) {
+            bail!("the packet at byte {at} breaks off; it is left out");
         }
         self.lines.check_end()
     }

@@ -28,8 +28,13 @@ const ANSWER_SIZE: usize = 16;
 /// So many seconds a daemon may take for a connection, and for each answer.
 const PATIENCE: i64 = 5;
 /// So many pages are asked for, 4,194,304 records, and for so long: what listens there may be no daemon, and would be asked for ever.
-const MOST_PAGES: u32 = 1 << 18;
-const LONGEST: Duration = Duration::from_secs(60);
+const BOUNDS: Bounds = Bounds { pages: 1 << 18, time: Duration::from_secs(60) };
+
+#[derive(Clone, Copy)]
+struct Bounds {
+    pages: u32,
+    time: Duration,
+}
 
 /// The number in the line `#define PROTOCOL_VERSION Nu`.
 fn protocol_version() -> u32 {
@@ -166,19 +171,19 @@ fn ask(end: &File, device: &str) -> Result<File> {
 
 /// Asks for what goes on on a device, page after page of so many bytes; each says where the next one begins.
 pub fn each_page(place: &Where, size: usize, call: impl FnMut(&[u8]) -> [u64; 2]) -> Result<()> {
-    pages_within(place, size, LONGEST, call)
+    pages_within(place, size, BOUNDS, call)
 }
 
 /// The same, of all that is told within some time.
-fn pages_within(place: &Where, size: usize, longest: Duration, mut call: impl FnMut(&[u8]) -> [u64; 2]) -> Result<()> {
+fn pages_within(place: &Where, size: usize, bounds: Bounds, mut call: impl FnMut(&[u8]) -> [u64; 2]) -> Result<()> {
     let end = needed(connection(place.socket.as_deref())?, place)?;
     let device = &place.device;
     if let (Some(error), _) = asked(&end, &request(CONTROL_OPEN, [0; 2], device)?, &mut [0; ANSWER_SIZE])? {
         return Err(refusal(Some(error), device));
     }
     let (mut next, mut page, since) = ([0; 2], vec![0; size], Instant::now());
-    for _ in 0..MOST_PAGES {
-        ensure!(since.elapsed() <= longest, "{device}: the daemon doesn't tell all of it in time");
+    for _ in 0..bounds.pages {
+        ensure!(since.elapsed() <= bounds.time, "{device}: the daemon doesn't tell all of it in time");
         if let (Some(error), _) = asked(&end, &request(CONTROL_STATE, next, device)?, &mut page)? {
             return Err(refusal(Some(error), device));
         }
@@ -337,7 +342,8 @@ mod tests {
         let (end, path) = listener("slow");
         let answering = answers(end, Duration::from_millis(100));
         let mut pages = 0;
-        let told = pages_within(&at(&path), 8, Duration::from_millis(500), |_| {
+        let bounds = Bounds { time: Duration::from_millis(500), ..BOUNDS };
+        let told = pages_within(&at(&path), 8, bounds, |_| {
             pages += 1;
             [if pages > 50 { 0 } else { pages }, 0]
         });
@@ -347,18 +353,19 @@ mod tests {
         std::fs::remove_file(path).unwrap();
     }
 
+    /// Few pages and much time, since a busy machine takes a minute for all that are asked for elsewhere.
     #[test]
     fn who_tells_for_ever_is_not_listened_to() {
+        const PAGES: u32 = 1000;
         let (end, path) = listener("endless");
         let answering = answers(end, Duration::ZERO);
         let mut pages = 0;
-        // So many pages may take a busy machine longer than one is listened to.
-        let told = pages_within(&at(&path), 8, Duration::from_secs(600), |_| {
+        let told = pages_within(&at(&path), 8, Bounds { pages: PAGES, time: 100 * BOUNDS.time }, |_| {
             pages += 1;
-            [if pages > 2 * u64::from(MOST_PAGES) { 0 } else { pages }, 0]
+            [if pages > 2 * u64::from(PAGES) { 0 } else { pages }, 0]
         });
         assert!(told.expect_err("no end").to_string().contains("doesn't end"));
-        assert_eq!(pages, u64::from(MOST_PAGES));
+        assert_eq!(pages, u64::from(PAGES));
         answering.join().unwrap();
         std::fs::remove_file(path).unwrap();
     }

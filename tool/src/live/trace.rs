@@ -134,6 +134,7 @@ impl Chosen<'_> {
             comms: parties.into_iter().flatten().map(|it| &*it.comm).collect(),
             code: call.code,
             interface: call.interface.as_deref(),
+            called: Some(&call.what),
             has_failed: matches!(end, Some(End::Failed | End::Refused(_) | End::Left)),
         })
     }
