@@ -144,7 +144,6 @@ fn without_its_waiting_a_script_is_the_players() {
 #[test]
 #[ignore = "it needs a player"]
 fn so_it_does_of_made_up_scripts() {
-    let mut come_about = String::new();
     let first = match std::env::var("HULLPIPPIN_SEED") {
         Ok(seed) => seed.parse().expect("a number"),
         Err(_) => SystemTime::now().duration_since(UNIX_EPOCH).expect("a time").as_secs(),
@@ -153,9 +152,17 @@ fn so_it_does_of_made_up_scripts() {
         let script = kept(&format!("made-{seed}.script"), made(seed, 150).as_bytes());
         let path = PathBuf::from(script.path());
         assert_eq!(difference(&path), None, "seed {seed}");
-        come_about.push_str(&model(&path));
     }
-    // The scripts come to what there is to be compared.
+}
+
+/// Scripts that are made up so come to what there is to be compared; not all of it in any three hundred.
+#[test]
+fn made_up_scripts_reach_far() {
+    let mut come_about = String::new();
+    for seed in 0..300 {
+        let script = kept(&format!("far-{seed}.script"), made(seed, 150).as_bytes());
+        come_about.push_str(&model(Path::new(script.path())));
+    }
     let reached = [
         "got 0c72000002724080",
         "got 0c7200000f720880",
