@@ -37,14 +37,14 @@ static void tell(const struct run *run, bool is_well, const char *refusal)
 {
     if (is_well)
         return;
-    fprintf(stderr, "%s, %u steps ahead, %s: %s\n", WAY_NAMES[run->way], run->ahead, refusal, complaint);
+    fprintf(stderr, "%s, %u bytes ahead, %s: %s\n", WAY_NAMES[run->way], run->ahead, refusal, complaint);
     differ++;
 }
 
-/* Plays a script with nothing refused. */
-static bool plays_undisturbed(struct run *run, enum way way, uint32_t steps)
+/* Plays a script with nothing refused, behind so many bytes. */
+static bool plays_undisturbed(struct run *run, const struct script *played, enum way way, uint32_t bytes, uint64_t grows_at)
 {
-    *run = (struct run){.script = &script, .way = way, .ahead = steps};
+    *run = (struct run){.script = played, .way = way, .ahead = bytes, .grows_at = grows_at};
     refuse(0, false);
     return play(run);
 }
@@ -53,7 +53,7 @@ static bool plays_undisturbed(struct run *run, enum way way, uint32_t steps)
 static void try_request(const struct run *wanted, long request, bool all)
 {
     char refusal[64];
-    disturbed = (struct run){.script = &script, .way = wanted->way, .ahead = wanted->ahead, .undisturbed = wanted};
+    disturbed = (struct run){.script = &script, .way = wanted->way, .ahead = wanted->ahead, .grows_at = wanted->grows_at, .undisturbed = wanted};
     refuse(request, all);
     refused++;
     bool is_well = play(&disturbed) && is_same_text(&disturbed, wanted) && is_same_journal(&disturbed, wanted)
@@ -75,19 +75,66 @@ static void try_requests(const struct run *wanted, long first, long last)
 static void try_way(enum way way)
 {
     struct run *run = &undisturbed[way], *calls = &undisturbed[CALL];
-    bool is_well = plays_undisturbed(run, way, 0);
+    bool is_well = plays_undisturbed(run, &script, way, 0, 0);
     long last = requests();
     is_well = is_well && is_same_text(run, calls) && (run->has_other_parcels || is_same_journal(run, calls));
     tell(run, is_well, "undisturbed");
     try_requests(run, 1, last);
 }
 
-/* The requests of the line in which the history grows, with so many steps ahead of the script. */
-static void try_growth(enum way way, uint32_t steps)
+/* ---- a history that grows */
+
+/* The heading of a journal of few seats: the magic, the number of seats, and that of entries. */
+enum { HEADING = 16 };
+
+static size_t word_at(const uint8_t *at)
 {
-    tell(&ahead, plays_undisturbed(&ahead, way, steps), "undisturbed");
+    return at[0] | (size_t)at[1] << 8 | (size_t)at[2] << 16 | (size_t)at[3] << 24;
+}
+
+/* Where the entry that begins here ends: it has a seat, and two blocks with their lengths. */
+static size_t entry_end(const uint8_t *journal, size_t at)
+{
+    at += 4;
+    for (int block = 0; block < 2; block++)
+        at += 4 + word_at(journal + at);
+    return at;
+}
+
+/* The bytes of the entry of the call that comes ahead, but for its data; 0 where they aren't to be told. */
+static uint32_t bare_size(void)
+{
+    static const struct script nothing = {.seats = 1};
+    size_t sizes[2] = {0};
+    for (uint32_t i = 0; i < 2; i++) {
+        tell(&ahead, plays_undisturbed(&ahead, &nothing, CALL, 1000 * (i + 1), 0), "ahead of nothing");
+        sizes[i] = ahead.journal_size - HEADING - 1000 * (i + 1);
+    }
+    return sizes[0] == sizes[1] ? (uint32_t)sizes[0] : 0;
+}
+
+/* The requests of the line in which the history grows, by its step at this place: room is left for so many bytes of the script. */
+static void try_growth(enum way way, uint32_t bare, size_t room, uint64_t place)
+{
+    tell(&ahead, plays_undisturbed(&ahead, &script, way, (uint32_t)(FULL - room) - bare, place), "undisturbed");
     if (ahead.growing[0])
         try_requests(&ahead, ahead.growing[0], ahead.growing[1]);
+}
+
+/* The same of each step of the script. The call that comes ahead is a step, too. A step asks for the room of its longest answer, so all but a
+   byte of its entry is left: then those before it find enough. */
+static void try_growths(void)
+{
+    const struct run *calls = &undisturbed[CALL];
+    uint32_t bare = bare_size();
+    uint64_t place = 0;
+    for (size_t at = HEADING; at < calls->journal_size;) {
+        place++;
+        at = entry_end(calls->journal, at);
+        try_growth(CALL, bare, at - HEADING - 1, place);
+        try_growth(HAND_OVER, bare, at - HEADING - 1, place);
+    }
+    tell(calls, (bare > 0 && place == calls->steps) || fails("its entries aren't those of its journal"), "undisturbed");
 }
 
 int main(int words, char **word)
@@ -99,8 +146,7 @@ int main(int words, char **word)
     tell(&disturbed, refuses_seat_counts(), "numbers of seats");
     for (int way = 0; way < WAYS; way++)
         try_way((enum way)way);
-    for (uint32_t i = 0; i < 2 * GROWS_AT; i++)
-        try_growth(i % 2 ? HAND_OVER : CALL, i / 2 + 1);
+    try_growths();
     fwrite(undisturbed[CALL].text.at, 1, undisturbed[CALL].text.size, stdout);
     printf("stopped:\n");
     fwrite(stops.at, 1, stops.size, stdout);

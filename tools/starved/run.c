@@ -62,8 +62,7 @@ static bool stands(struct run *run, const struct line *line, const struct outcom
         at += (uint32_t)command.size;
     }
     count(run->way, ENGINE, "stop F14");
-    if (run->ahead == 0)
-        say(&stops, line->number, part);
+    say(&stops, line->number, part);
     return (answer->consumed > 0 && answer->consumed == at) || fails("a write that was stopped has run something else");
 }
 
@@ -122,14 +121,22 @@ static bool makes_whole(struct run *run, const struct actions *actions, const st
     return !complaint;
 }
 
-/* What comes before the script: requests that are refused, as the first seat has no process yet. */
+/* The record of a call without offsets, whose data is what its area begins with: the code, and where the length of its data stands. */
+enum { CALL_SIZE = 68, DATA_SIZE_AT = 4 + 32 };
+
+/* What comes before the script: a call that is refused, as the first seat has no process yet. */
 static bool comes_ahead(struct run *run, const struct actions *actions, struct outcome *outcome)
 {
-    static const struct line read = {.request = {.kind = HULLPIPPIN_READ, .limit = 256}};
-    for (uint32_t i = 0; i < run->ahead; i++)
-        if (!makes_whole(run, actions, &read, outcome))
-            return false;
-    return true;
+    static const uint8_t area[FULL];
+    uint8_t stream[CALL_SIZE] = {0};
+    struct line line = {.request = {.kind = HULLPIPPIN_WRITE}, .stream = {stream, sizeof stream}, .area = {area, run->ahead}};
+    if (!run->ahead)
+        return true;
+    for (int i = 0; i < 4; i++) {
+        stream[i] = (uint8_t)(HULLPIPPIN_BC_TRANSACTION >> 8 * i);
+        stream[DATA_SIZE_AT + i] = (uint8_t)(run->ahead >> 8 * i);
+    }
+    return makes_whole(run, actions, &line, outcome);
 }
 
 /* Plays a line, and notes which requests for memory it makes where the history grows by it. */
@@ -138,7 +145,7 @@ static bool plays_line(struct run *run, const struct actions *actions, const str
     long before = requests();
     if (!makes_whole(run, actions, line, outcome))
         return false;
-    if (outcome->answer.from <= GROWS_AT && outcome->answer.to > GROWS_AT) {
+    if (run->ahead && outcome->answer.from <= run->grows_at && outcome->answer.to > run->grows_at) {
         run->growing[0] = before + 1;
         run->growing[1] = requests();
     }

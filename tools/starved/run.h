@@ -7,14 +7,17 @@
 #include "outcome.h"
 #include "script.h"
 
-/* A driver's history asks for more room once it has GROWS_AT steps, among others. */
-enum { MOST_SEATS = 31, MOST_STEPS = 4096, MOST_JOURNAL = 1 << 18, GROWS_AT = 32 };
+/* A driver's history asks for more room once its entries have come to FULL bytes, as a journal spells them. */
+enum { MOST_SEATS = 31, MOST_STEPS = 4096, FULL = 1 << 18, MOST_JOURNAL = 2 * FULL };
 
 struct run {
     const struct script *script;
     enum way way;
-    /* How many requests that a seat without a process is refused come before those of the script: so many steps of the history. */
+    /* So many bytes of data has a call ahead of the script, which a seat without a process is refused: a step that fills the history. None
+       comes where this is 0. */
     uint32_t ahead;
+    /* The place of the step at which the history grows, where something comes ahead. */
+    uint64_t grows_at;
     /* The run in which nothing was refused; none where this is it. */
     const struct run *undisturbed;
     hullpippin_driver driver;
@@ -33,7 +36,7 @@ struct run {
     /* What came of it: a line for each request, the number of steps, and the journal. */
     struct text text;
     uint64_t steps;
-    /* The requests for memory of the line in which the history came to have more than GROWS_AT steps, the first and the last. */
+    /* The requests for memory of the line in which the history grows, the first and the last. */
     long growing[2];
     size_t journal_size;
     uint8_t journal[MOST_JOURNAL];
@@ -42,7 +45,7 @@ struct run {
 /* Plays it. False where something isn't as it has to be, which `complaint` tells. */
 bool play(struct run *run);
 
-/* What the player prints for each write that memory stopped, of the runs with no steps ahead. */
+/* What the player prints for each write that memory stopped. */
 extern struct text stops;
 
 /* Whether these numbers of seats are refused, and no memory is asked for by that. */
