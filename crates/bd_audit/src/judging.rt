@@ -94,7 +94,9 @@ pub(crate) fn accept_live(live: &mut Live, entry: &Entry) -> Result<bool, AllocE
 /// Is told how far a judgment is, for whoever waits for a long one.
 pub trait Watch {
     /// So much of all is done: so many entries, or bytes where nobody knows how many entries are to come.
-    fn follow(&mut self, done: usize, all: usize);
+    fn follow(&mut self, done: usize, all: usize)
+        // Nobody is told of more than all.
+        requires { done ≤ all };
 }
 
 /// A watch that does nothing, for whoever needn't know how far a judgment is.
