@@ -155,15 +155,15 @@ def times_and_names(build):
     with Stage(build, journal=DEVICE) as stage:
         offset = time.time_ns() - time.monotonic_ns()
         told = stage.run([build.raw("named"), *ODD_NAMES])
-        end = time.monotonic_ns()
         stage.end()
+        end = time.monotonic_ns()
         journal = Journal(contents(stage.journal))
         times, who = see_agreement(journal, stage.journal)
         written = contents(f"{stage.journal}.who").decode("ascii")
         files = sorted(os.listdir(stage.folder))
     expect(abs(times.offset - offset) < 1e9, f"the clocks are {times.offset} apart, and not {offset}")
     expect(len(times.times) == len(journal.entries) and not times.left and not who.left, f"{len(times.times)} times, {journal.told()}")
-    expect(all(a <= b for a, b in zip([begin, *times.times], [*times.times[:-1], end])), "times aren't in order, or of another time")
+    expect(all(a <= b for a, b in zip([begin, *times.times], [*times.times, end])), "times aren't in order, or of another time")
     threads = [tuple(map(int, line.split())) for line in re.findall(r"^\d+ \d+$", told, re.M)]
     names = dict(zip(threads, [b"named", *ODD_NAMES]))
     found = {(it.pid, it.tid): it.comm for it in who.lines if it.pid}

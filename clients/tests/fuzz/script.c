@@ -81,6 +81,22 @@ static void close_all(const int *descriptors, unsigned count)
         close(descriptors[i]);
 }
 
+/* What a control socket may be told. */
+union told {
+    struct state_page page;
+    struct control_answer answer;
+};
+
+/* A client may have left answers to earlier packets where they are: they are none to the next request. */
+static void drop_answers(const struct actor *client)
+{
+    union told told;
+    int descriptors[DESCRIPTORS_MAX];
+    unsigned count = 0;
+    while (receive(client->control, &told, sizeof told, descriptors, &count) > 0)
+        close_all(descriptors, count);
+}
+
 /* Takes the answer to a control request, and what came with it. */
 static bool take_answer(struct actor *client, struct control_answer *answer, int *descriptors, unsigned *count)
 {
@@ -95,7 +111,10 @@ static bool ask(struct actor *client, struct control_request *request, struct co
 {
     request->version = PROTOCOL_VERSION;
     *count = 0;
-    if (client->control < 0 || !give(client->control, request, sizeof *request, NULL, 0))
+    if (client->control < 0)
+        return false;
+    drop_answers(client);
+    if (!give(client->control, request, sizeof *request, NULL, 0))
         return false;
     daemon_goes_on();
     return take_answer(client, answer, descriptors, count);
@@ -210,10 +229,7 @@ static void act_begin(struct input *input, struct actor *client)
 static void act_control(struct input *input, struct actor *client)
 {
     static const char *const devices[] = {"/dev/binder", "/dev/hwbinder", "/dev/none", ""};
-    union {
-        struct state_page page;
-        struct control_answer answer;
-    } told;
+    union told told;
     struct control_request request = {.version = PROTOCOL_VERSION};
     int descriptors[DESCRIPTORS_MAX];
     unsigned count, sent;
