@@ -181,6 +181,12 @@ def device_time(pid, thread):
         return int(file.read().split()[0]) / 1e9
 
 
+def begun_at(pid, thread):
+    """When a thread of the process began, in the kernel's ticks."""
+    with open(f"/proc/{pid}/task/{thread}/stat", encoding="ascii", errors="replace") as file:
+        return int(file.read().rpartition(")")[2].split()[19])
+
+
 @test("raw costly ends", plain_only=True)
 def costly(build):
     """What takes its time to be closed is closed by no thread that a client waits for."""
@@ -190,7 +196,8 @@ def costly(build):
             pid = stage.daemon.pid
             before = set(os.listdir(f"/proc/{pid}/task"))
             program = stage.start([build.fuzz("costly"), *words], client=False).wait_for("ready", 30)
-            thread = pid if words else max(set(os.listdir(f"/proc/{pid}/task")) - before, key=int)
+            # The first that came is the device's; those behind it close what was left.
+            thread = pid if words else min(set(os.listdir(f"/proc/{pid}/task")) - before, key=lambda it: begun_at(pid, it))
             used = device_time(pid, thread)
             program.wait_for("left")
             time.sleep(1)

@@ -12,6 +12,8 @@
 #include <stdlib.h>
 #include <string.h>
 #include <sys/prctl.h>
+#include <sys/socket.h>
+#include <sys/time.h>
 #include <unistd.h>
 
 #define THREADS_MOST 64
@@ -156,6 +158,8 @@ int main(int argc, char **argv)
     if (user)
         become(user);
     CHECK(hostile_begin(&readers[0], argv[1]), "no client");
+    /* The daemon answers, however busy the machine is: what is judged is what lies in the links. */
+    CHECK(!setsockopt(readers[0].control, SOL_SOCKET, SO_RCVTIMEO, &(struct timeval){.tv_sec = 30}, sizeof(struct timeval)), "no patience");
     readers[0].page->request = (struct page_request){.op = PAGE_SET_MANAGER, .flags = PAGE_TAKES_DESCRIPTORS};
     ask(&readers[0]);
     CHECK(!readers[0].page->answer.error, "no context manager");
