@@ -164,6 +164,12 @@ static inline bool exits_thread(hullpippin_live *live, uint32_t seat)
     return is_made(hullpippin_live_exit_thread(live, seat, &answer), &answer, HULLPIPPIN_EXITED);
 }
 
+static inline bool exits_process(hullpippin_live *live, uint32_t seat)
+{
+    hullpippin_answer answer;
+    return is_made(hullpippin_live_exit_process(live, seat, &answer), &answer, HULLPIPPIN_EXITED);
+}
+
 /* Two processes of a live engine, the first the context manager's. */
 static inline bool opens_live(hullpippin_live *live, uint32_t manager, uint32_t client)
 {

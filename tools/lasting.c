@@ -104,18 +104,12 @@ static bool acknowledges(hullpippin_live *live, uint32_t seat, uint64_t object)
     return drains(live, seat) && runs(live, seat, &weakly, NULL) && runs(live, seat, &strongly, NULL);
 }
 
-static bool exits(hullpippin_live *live, uint32_t seat)
-{
-    hullpippin_answer answer;
-    return is_made(hullpippin_live_exit_process(live, seat, &answer), &answer, HULLPIPPIN_EXITED);
-}
-
 /* ---- rounds: each ends what it makes, and gets an object's ptr that no earlier one had */
 
 static bool process(hullpippin_live *live, uint64_t object)
 {
     (void)object;
-    return opens_process(live, GUEST, GUEST_PID, WINDOW) && exits(live, GUEST);
+    return opens_process(live, GUEST, GUEST_PID, WINDOW) && exits_process(live, GUEST);
 }
 
 static bool thread(hullpippin_live *live, uint64_t object)
@@ -186,7 +180,7 @@ static bool visits(hullpippin_live *live, uint64_t object, uint64_t *buffer)
 static bool death(hullpippin_live *live, uint64_t object)
 {
     uint64_t buffer;
-    return visits(live, object, &buffer) && makes(live, HULLPIPPIN_BC_REQUEST_DEATH_NOTIFICATION, HANDLE, object) && exits(live, GUEST)
+    return visits(live, object, &buffer) && makes(live, HULLPIPPIN_BC_REQUEST_DEATH_NOTIFICATION, HANDLE, object) && exits_process(live, GUEST)
            && drains(live, MANAGER) && makes(live, HULLPIPPIN_BC_DEAD_BINDER_DONE, 0, object) && frees(live, MANAGER, buffer);
 }
 
@@ -196,7 +190,7 @@ static bool process_with_a_name(hullpippin_live *live, uint64_t object)
     uint64_t asked, kept;
     return opens_process(live, GUEST, GUEST_PID, WINDOW) && calls(live, GUEST, 0, 0) && takes(live, MANAGER, &asked)
            && makes_with_object(live, MANAGER, HULLPIPPIN_BC_REPLY, 0, object) && frees(live, MANAGER, asked)
-           && acknowledges(live, MANAGER, object) && takes(live, GUEST, &kept) && exits(live, GUEST) && drains(live, MANAGER);
+           && acknowledges(live, MANAGER, object) && takes(live, GUEST, &kept) && exits_process(live, GUEST) && drains(live, MANAGER);
 }
 
 /* The process ends with a call that was read, some that weren't, and one whose caller waits. */
@@ -205,7 +199,7 @@ static bool process_with_calls(hullpippin_live *live, uint64_t object)
     uint64_t buffer, kept;
     return visits(live, object, &buffer) && calls(live, MANAGER, HANDLE, HULLPIPPIN_TF_ONE_WAY) && drains(live, MANAGER) && reads(live, GUEST)
            && takes(live, GUEST, &kept) && calls(live, MANAGER, HANDLE, HULLPIPPIN_TF_ONE_WAY) && calls(live, MANAGER, HANDLE, HULLPIPPIN_TF_ONE_WAY)
-           && calls(live, MANAGER, HANDLE, 0) && exits(live, GUEST) && drains(live, MANAGER) && frees(live, MANAGER, buffer);
+           && calls(live, MANAGER, HANDLE, 0) && exits_process(live, GUEST) && drains(live, MANAGER) && frees(live, MANAGER, buffer);
 }
 
 /* The manager keeps the object: this isn't to give its room back. */

@@ -203,30 +203,24 @@ static bool free_last(uint32_t number)
 
 /* ---- that all of it goes at once */
 
-static bool exits(uint32_t seat)
-{
-    hullpippin_answer answer;
-    return is_made(hullpippin_live_exit_process(&live, seat, &answer), &answer, HULLPIPPIN_EXITED);
-}
-
 static bool both_go(uint32_t number)
 {
     (void)number;
-    return exits(FIRST) && exits(MANAGER);
+    return exits_process(&live, FIRST) && exits_process(&live, MANAGER);
 }
 
 static bool each_goes(uint32_t number)
 {
     bool good = true;
     for (uint32_t i = 0; good && i < number - looked_at(number); i++)
-        good = exits(FIRST + i);
-    return good && exits(MANAGER);
+        good = exits_process(&live, FIRST + i);
+    return good && exits_process(&live, MANAGER);
 }
 
 static bool client_goes(uint32_t number)
 {
     (void)number;
-    return exits(CLIENT) && exits(MANAGER);
+    return exits_process(&live, CLIENT) && exits_process(&live, MANAGER);
 }
 
 /* A BR_DEAD_BINDER, with its cookie. */
@@ -236,12 +230,12 @@ enum { DEATH_SIZE = 12 };
 static bool deaths_are_told(uint32_t number)
 {
     uint32_t told = 0;
-    bool good = exits(FIRST);
+    bool good = exits_process(&live, FIRST);
     while (good && hullpippin_live_ready(&live, MANAGER)) {
         good = reads(&live, MANAGER);
         told += (uint32_t)(hullpippin_live_bytes(&live, HULLPIPPIN_STREAM, NULL, 0) / DEATH_SIZE);
     }
-    return good && is(told == number - looked_at(number), "not each death is told") && exits(MANAGER);
+    return good && is(told == number - looked_at(number), "not each death is told") && exits_process(&live, MANAGER);
 }
 
 /* ---- rounds */
