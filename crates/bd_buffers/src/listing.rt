@@ -1,6 +1,6 @@
 //! Where live buffers were made.
 
-ghost use Rattle.std.specs.Prelude.{◌≡◌, ◌++◌, map, OnOk};
+ghost use Rattle.std.specs.Prelude.{◌≡◌, ◌≤◌, ◌++◌, length, map, OnOk, OnErr};
 ghost use Rattle.bd_buffers.specs.{Rows.{live}, Record.{made_of_record, next_record}};
 
 use crate::rows::Rows;
@@ -8,7 +8,9 @@ use std::alloc::AllocError;
 
 /// Appends the places at which these live buffers were made, oldest first.
 pub(crate) fn list_made(buffers: &Rows, places: &mut Vec<u64>) -> Result<(), AllocError>
-    ensures { OnOk result (places.new.items ≡ places.old.items ++ map made_of_record (live buffers.now.rows)) }
+    ensures listed { OnOk result (places.new.items ≡ places.old.items ++ map made_of_record (live buffers.now.rows)) }
+    // Memory was asked for: there is a live buffer.
+    ensures grown { OnErr result (1 ≤ length (live buffers.now.rows)) }
 {
     for i in 0..buffers.len() {
         if let Some(b) = buffers.in_row(i) {

@@ -231,7 +231,9 @@ impl Window {
 
     /// Appends the places at which the live buffers were made, oldest first.
     pub(crate) fn list_made(&self, places: &mut Vec<u64>) -> Result<(), AllocError>
-        ensures { OnOk result (places.new.items ≡ places.old.items ++ map made_of_buffer self.now.buffers) }
+        ensures listed { OnOk result (places.new.items ≡ places.old.items ++ map made_of_buffer self.now.buffers) }
+        // Memory was asked for: there is a live buffer.
+        ensures grown { OnErr result (1 ≤ length self.now.buffers) }
     {
         list_made(&self.buffers, places)
     }

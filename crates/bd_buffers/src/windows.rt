@@ -194,8 +194,10 @@ impl Windows {
     /// Appends the places at which the live buffers of a process were made, oldest first. What it appends where memory is
     /// refused isn't said.
     pub fn list_made(&self, p: u64, places: &mut Vec<u64>) -> Result<(), AllocError>
-        ensures { OnOk result (Tells (StandsIn self.now) places.new.items
+        ensures listed { OnOk result (Tells (StandsIn self.now) places.new.items
             (λ s. places.old.items ++ map made_of_buffer (buffers_of s.buffers p))) }
+        // Memory was asked for: the process has a live buffer.
+        ensures grown { OnErr result ((s : Space) → StandsIn self.now s → 1 ≤ length (buffers_of s.buffers p)) }
     {
         match self.owned(p) {
             None => Ok(()),

@@ -7,3 +7,5 @@ pub mod Marking
 pub mod OneByOne
 pub mod OneWay
 pub mod Seats
+pub mod Marked
+pub mod Members

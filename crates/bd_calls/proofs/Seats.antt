@@ -7,7 +7,7 @@ use Rattle.bd_ways.specs.Words.{Frame, Thread, Work, WorkKind, TodoList, OfThrea
 use Rattle.bd_keys.proofs.{Found.{found_passes}, Options.{or_none}}
 use Rattle.bd_space.specs.{Seats.{thread_in}, Frames.{innermost_in}, ReadItems.{none_due}}
 use Rattle.bd_space.specs.Todo.{has_work_in, is_on, work_on, reads_in, with_work, without_taken}
-use Rattle.bd_calls.specs.{declared.ready.Seen.{Seen}, declared.ready.ReadySeats.{ReadySeats}}
+use Rattle.bd_calls.specs.{declared.seen.Seen.{Seen}, declared.ready.ReadySeats.{ReadySeats}}
 use Rattle.bd_calls.specs.Ready.{seen_at, noted, told_then, told_after, IsSeen, AreSeen}
 use Rattle.bd_todo.proofs.{OnList.{any_left}, ListKeys.{same_list_eq}}
 use Rattle.bd_calls.proofs.Marking.{pushed_on, taken_beside}

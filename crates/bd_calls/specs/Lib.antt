@@ -6,3 +6,4 @@ pub mod Room
 pub mod Told
 pub mod Closing
 pub mod Stacked
+pub mod Marked

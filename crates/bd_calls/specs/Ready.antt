@@ -2,7 +2,7 @@
 use Rattle.std.specs.Prelude.{ℕ, ◌≡◌, ◌==◌, Bool, List, Option, None, if◌then◌else◌, fold, get_or, IfSome}
 use Rattle.bd_ways.specs.Words.{Thread, Work, TodoList, OfThread, OfProcess, is_some_and}
 use Rattle.bd_space.specs.{Seats.{thread_in}, Todo.{same_list, has_work_in}}
-use Rattle.bd_calls.specs.{declared.ready.Seen.{Seen}, declared.ready.ReadySeats.{ReadySeats}}
+use Rattle.bd_calls.specs.{declared.seen.Seen.{Seen}, declared.ready.ReadySeats.{ReadySeats}}
 
 -- what is kept of a seat, if anything is
 abbrev pub seen_at : ReadySeats → ℕ → Option Seen

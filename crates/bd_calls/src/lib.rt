@@ -1,9 +1,11 @@
 //! The table of threads, open calls (frames), work items and one-way calls.
 #![tactic(auto)]
 
+mod bits;
 mod frame;
 mod marks;
 mod ready;
+mod seen;
 mod table;
 mod thread;
 mod todo_list;

@@ -1,30 +1,15 @@
 //! What is kept of the seats from step to step: whether there is anything on the lists that each may read.
 #![tactic(auto)]
 
-ghost use Rattle.std.specs.Prelude.{ℕ, ◌≡◌, ◌==◌, Bool, List, map, if◌then◌else◌, Option, None, option_map};
-ghost use Rattle.bd_space.specs.declared.space.Thread as declared;
-ghost use Rattle.bd_space.specs.declared.space.TodoList as lists;
-ghost use Rattle.bd_space.specs.declared.space.TodoList.TheVariants.{OfThread};
-ghost use Rattle.bd_space.specs.declared.space.Work as works;
-ghost use Rattle.bd_space.specs.Todo as todos;
-ghost use Rattle.bd_todo.specs.Stands as todo_table;
-ghost use Rattle.bd_threads.specs.Listed.{listed};
-ghost use Rattle.bd_calls.specs.Ready as spec;
+ghost use Rattle.bd_calls.specs.Marked.{AreMarked};
 
-use bd_space::{Thread, TodoList, Work};
+use crate::bits::with_bit;
+use crate::seen::{Seen, is_of, look_at, may_read};
+use bd_space::{TodoList, Work};
 use bd_threads::ThreadTable;
 use bd_todo::WorkTable;
 use bd_uapi::MOST_SEATS;
 use std::alloc::Global;
-
-/// What was seen of a seat.
-#[derive(Clone, Copy)]
-pub(crate) struct Seen {
-    pub(crate) thread: Option<Thread>,
-    // Whether there is anything on the thread's own list, and on its process's.
-    pub(crate) own: bool,
-    pub(crate) shared: bool,
-}
 
 /// What is kept of the seats: of each what is so, unless more may have changed since than the lists that were noted.
 #[derive(Drop)]
@@ -32,46 +17,22 @@ pub(crate) struct ReadySeats {
     pub(crate) seats: Vec<Option<Seen>>,
     // Something is kept of each, so there is nothing to look at. No clause speaks of it.
     pub(crate) whole: bool,
-}
-
-// What is kept of a seat, once something is on the process's list or nothing is.
-fn with_shared(seen: Option<Seen>, process: u64, has: bool) -> Option<Seen>
-    ensures { result ≡ option_map (spec.with_shared process has) seen }
-{
-    let mut seen = seen?;
-    if seen.thread.is_some_and(|t| t.process == process) {
-        seen.shared = has;
-    }
-    Some(seen)
-}
-
-fn note_members(seats: &mut Vec<Option<Seen>>, process: u64, has: bool)
-    ensures { seats.new.items ≡ map (option_map (spec.with_shared process has)) seats.old.items }
-{
-    for seen in seats.iter_mut() {
-        *seen = with_shared(*seen, process, has);
-    }
-}
-
-/// Looks at a seat.
-pub(crate) fn look_at(threads: &ThreadTable, todo: &WorkTable, seat: u32) -> Seen
-    ensures { (ts : List declared.Thread) (ws : List works.Work) → listed threads.now ≡ ts → todo_table.WorksAre todo.now ws
-        → spec.IsSeen ts (todos.has_work_in ws) seat result }
-{
-    let own = todo.has_any(TodoList::OfThread(seat));
-    let thread = threads.thread(seat);
-    let shared = match thread {
-        Some(t) => todo.has_any(TodoList::OfProcess(t.process)),
-        None => false,
-    };
-    Seen {
-        thread,
-        own,
-        shared,
-    }
+    // The seats that may have something to read, of the first 32: only these are asked for the ready word.
+    pub(crate) marked: u32,
+    ghost are_marked: { AreMarked seats.items marked },
 }
 
 impl ReadySeats {
+    ghost use Rattle.std.specs.Prelude.{ℕ, ◌≡◌, ◌<◌, ◌==◌, Bool, List, map, set, get_or, vec_len, if◌then◌else◌, Option, None, option_map};
+    ghost use Rattle.bd_space.specs.declared.space.Thread as declared;
+    ghost use Rattle.bd_space.specs.declared.space.TodoList as lists;
+    ghost use Rattle.bd_space.specs.declared.space.TodoList.TheVariants.{OfThread};
+    ghost use Rattle.bd_space.specs.declared.space.Work as works;
+    ghost use Rattle.bd_space.specs.Todo as todos;
+    ghost use Rattle.bd_todo.specs.Stands as todo_table;
+    ghost use Rattle.bd_threads.specs.Listed.{listed};
+    ghost use Rattle.bd_calls.specs.Ready as spec;
+
     /// Nothing is kept, of no seat. Takes no memory.
     pub(crate) fn new(alloc: Global) -> ReadySeats
         ensures { (ts : List declared.Thread) (told : lists.TodoList → Bool) → spec.AreSeen result ts told }
@@ -79,6 +40,31 @@ impl ReadySeats {
         ReadySeats {
             seats: Vec::new(alloc),
             whole: true,
+            marked: u32::MAX,
+        }
+    }
+
+    /// Nothing is kept yet, of any of these seats.
+    pub(crate) fn of(seats: Vec<Option<Seen>>) -> ReadySeats
+        requires { (at : ℕ) → get_or seats.items at None ≡ None }
+        ensures { (ts : List declared.Thread) (told : lists.TodoList → Bool) → spec.AreSeen result ts told }
+    {
+        ReadySeats {
+            seats,
+            whole: false,
+            marked: u32::MAX,
+        }
+    }
+
+    // This is kept of a seat from now on.
+    #[inline(always)]
+    fn keep(&mut self, at: usize, seen: Option<Seen>)
+        requires { at < vec_len self.old.seats }
+        ensures { self.new.seats.items ≡ set self.old.seats.items at seen }
+    {
+        self.seats[at] = seen;
+        if at < 32 {
+            self.marked = with_bit(self.marked, at as u32, may_read(seen));
         }
     }
 
@@ -88,7 +74,7 @@ impl ReadySeats {
     {
         let at = seat as usize;
         if at < self.seats.len() {
-            self.seats[at] = None;
+            self.keep(at, None);
         }
         self.whole = false;
     }
@@ -100,7 +86,26 @@ impl ReadySeats {
         let at = seat as usize;
         if at < self.seats.len() {
             if let Some(seen) = self.seats[at] {
-                self.seats[at] = Some(Seen { own: has, ..seen });
+                self.keep(at, Some(Seen { own: has, ..seen }));
+            }
+        }
+    }
+
+    // Whether there is anything on the list of the process.
+    fn note_members(&mut self, process: u64, has: bool)
+        ensures { self.new.seats.items ≡ map (option_map (spec.with_shared process has)) self.old.seats.items }
+    {
+        for at in 0..self.seats.len() {
+            if let Some(seen) = self.seats[at] {
+                if is_of(seen.thread, process) {
+                    self.keep(
+                        at,
+                        Some(Seen {
+                            shared: has,
+                            ..seen
+                        }),
+                    );
+                }
             }
         }
     }
@@ -111,7 +116,7 @@ impl ReadySeats {
     {
         match list {
             TodoList::OfThread(seat) => self.note_own(seat, has),
-            TodoList::OfProcess(process) => note_members(&mut self.seats, process, has),
+            TodoList::OfProcess(process) => self.note_members(process, has),
         }
     }
 
@@ -130,6 +135,7 @@ impl ReadySeats {
         ensures { (ts : List declared.Thread) (told : lists.TodoList → Bool) → spec.AreSeen self.new ts told }
     {
         self.whole = false;
+        self.marked = u32::MAX;
         self.seats.fill(None);
     }
 
@@ -145,7 +151,7 @@ impl ReadySeats {
         for seat in 0..seats {
             let at = seat as usize;
             if at < self.seats.len() && self.seats[at].is_none() {
-                self.seats[at] = Some(look_at(threads, todo, seat));
+                self.keep(at, Some(look_at(threads, todo, seat)));
             }
         }
         self.whole = true;

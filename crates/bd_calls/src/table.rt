@@ -176,10 +176,7 @@ impl CallTable {
         ensures few { ReachesFew 0 self.old self.new }
     {
         let seats = vec![in alloc; None; seats as usize]?;
-        self.ready = ReadySeats {
-            seats,
-            whole: false,
-        };
+        self.ready = ReadySeats::of(seats);
         Ok(())
     }
 

@@ -1,16 +1,18 @@
 //! Todo lists: which work items are still to be read, and by whom.
 #![tactic(auto, unfolding(bd_space::specs::Todo::owe, bd_space::specs::Todo::has_unread, bd_space::specs::Todo::list_to_read, crate::specs::Room::rooms, crate::specs::Told::Recalls, crate::specs::Told::HasRoomToTell))]
 
-ghost use Rattle.std.specs.Prelude.{Bool, List, ◌≡◌, ◌==◌, ◌&&◌, ◌-◌, ◌<◌, ◌≤◌, not, filter, Option, Some, None};
+ghost use Rattle.std.specs.Prelude.{Bool, List, ◌≡◌, ◌==◌, ◌&&◌, ◌-◌, ◌^◌, ◌<◌, ◌≤◌, not, filter, Option, Some, None};
 ghost use Rattle.std.specs.{List.{slice_get}, Option.{is_none}};
 ghost use Rattle.bd_keys.specs.Tables.{AnswersBy};
+ghost use Rattle.bd_uapi.specs.Limits.{most_seats};
 ghost use Rattle.bd_space.specs.{declared.space.WorkKind.{WorkKind}, Frames.{innermost_in}, Words.{is_some_and}};
 ghost use Rattle.bd_space.specs.Todo as spec;
 ghost use Rattle.bd_space.specs.Notices as notices;
 ghost use Rattle.bd_frames.specs.Stands as frame_table;
 ghost use Rattle.bd_todo.specs.TodoList as replies;
 
-use crate::ready::{Seen, look_at};
+use crate::bits::{low, lowest, with_bit, without};
+use crate::seen::{Seen, look_at};
 use crate::table::CallTable;
 use bd_frames::FrameTable;
 use bd_space::{Frame, Identity, Thread, TodoList, Work, WorkKind};
@@ -26,7 +28,7 @@ pub(crate) fn is_idle(frames: &FrameTable, thread: &Thread) -> bool
 }
 
 impl CallTable {
-    ghost use Rattle.bd_space.specs.{declared.space.Object.{Object}, Space.{Space}, Histories.{is_ready}};
+    ghost use Rattle.bd_space.specs.{declared.space.Object.{Object}, Space.{Space}, Histories.{is_ready, ready_below}};
     ghost use Rattle.bd_ways.specs.Tables.{Tells, Makes, MakesAt};
     ghost use Rattle.bd_calls.specs.{Ready.{IsSeen}, Stands.{StandsFor}};
     ghost use Rattle.bd_calls.specs.{Told.{KeepsTold, ReachesFew}, Room.{Uses, UsesNothing, nothing, work_room}};
@@ -93,6 +95,22 @@ impl CallTable {
             Some(thread) => seen.own || (seen.shared && is_idle(&self.frames, &thread)),
             None => false,
         }
+    }
+
+    /// The ready seats below this one, bit i for seat i.
+    pub fn ready_below(&self, seats: u32) -> u32
+        requires { seats ≤ most_seats }
+        ensures ready { Tells (StandsFor self.now) result (λ s. ready_below s seats) }
+        ensures bits { result < 2 ^ most_seats }
+    {
+        let mut ready = 0;
+        let mut rest = low(self.ready.marked, seats);
+        'marked: while rest != 0 {
+            let seat = lowest(rest);
+            rest = without(rest, seat);
+            ready = with_bit(ready, seat, self.is_ready(seat));
+        }
+        ready
     }
 
     /// A work item comes onto a list, made at this place.

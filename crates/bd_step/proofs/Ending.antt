@@ -1,6 +1,6 @@
 -- Which buffers end by a step: where they are to be looked for.
 use Rattle.std.proofs.Common.{◌≡◌, ℕ, ◌==◌, ◌<◌, Bool, true, false, cond, not, List, [], ◌∷◌, map, filter, Option, Some, None, inl, inr, refl, ap, sym, subst, ◌∙◌, arith}
-use Rattle.std.specs.Prelude.{Result, Ok, Err, OnOk, is_none, is_some, ◌&&◌}
+use Rattle.std.specs.Prelude.{Result, Ok, Err, OnOk, OnErr, is_none, is_some, ◌&&◌}
 use Rattle.std.proofs.lemmas.Bool.{eqb-true, eq-eqb}
 use Rattle.bd_uapi.specs.declared.fault.Note.TheVariants.{NotHandedOut}
 use Rattle.bd_uapi.specs.declared.command.Command.{Command}
@@ -253,3 +253,7 @@ others_end_none s seat x no_command no_thread no_process = none_ended s (change 
 pub if_ok : {A E : Type 0} (r : Result A E) (P Q : Type 0) → (P → Q) → OnOk r P → OnOk r Q
 if_ok (Ok x) P Q f h = f h
 if_ok (Err e) P Q f h = tt
+
+pub if_err : {A E : Type 0} (r : Result A E) (P Q : Type 0) → (P → Q) → OnErr r P → OnErr r Q
+if_err (Ok x) P Q f h = tt
+if_err (Err e) P Q f h = f h

@@ -1,6 +1,6 @@
 //! Buffers that a step ends: where they are to be looked for.
 
-ghost use Rattle.std.specs.Prelude.{◌≡◌, [], Option, OnOk};
+ghost use Rattle.std.specs.Prelude.{◌≡◌, [], Option, OnOk, OnErr};
 ghost use Rattle.bd_uapi.specs.declared.command.Command.TheVariants as bc;
 ghost use Rattle.bd_space.specs.declared.step.Step.TheVariants as step_of;
 ghost use Rattle.bd_space.specs.declared.step.Parcel.{Parcel};
@@ -17,9 +17,11 @@ impl Tables {
     // Where the buffer was made that the seat's process knows by this pointer, if there is one.
     fn list_freed(&self, seat: u32, pointer: u64, places: &mut Vec<u64>) -> Result<(), AllocError>
         requires none { places.old.items ≡ [] }
-        ensures { OnOk result ((h : History) (parcel : Option Parcel) → Before self.now (space_after h)
+        ensures listed { OnOk result ((h : History) (parcel : Option Parcel) → Before self.now (space_after h)
             → HasEndings places.new.items (space_after h)
             (steps.change (space_after h) seat (step_of.Command (bc.FreeBuffer pointer) parcel)).space) }
+        // Memory was asked for: there is a live buffer.
+        ensures grown { OnErr result ((h : History) → Before self.now (space_after h) → (space_after h).buffers ≡ [] → ⊥) }
     {
         let Some(actor) = self.actor(seat) else {
             return Ok(());
@@ -37,6 +39,8 @@ impl Tables {
             → HasEndings places.new.items (space_after h) (steps.change (space_after h) seat step_of.ExitThread).space) }
         ensures process { OnOk result ((h : History) → Before self.now (space_after h)
             → HasEndings places.new.items (space_after h) (steps.change (space_after h) seat step_of.ExitProcess).space) }
+        // Memory was asked for: there is a live buffer.
+        ensures grown { OnErr result ((h : History) → Before self.now (space_after h) → (space_after h).buffers ≡ [] → ⊥) }
     {
         match self.actor(seat) {
             None => Ok(()),
@@ -52,9 +56,11 @@ impl Tables {
         places: &mut Vec<u64>,
     ) -> Result<(), AllocError>
         requires none { places.old.items ≡ [] }
-        ensures { OnOk result ((h : History) (parcel : Option Parcel) → Before self.now (space_after h)
+        ensures listed { OnOk result ((h : History) (parcel : Option Parcel) → Before self.now (space_after h)
             → HasEndings places.new.items (space_after h)
             (steps.change (space_after h) seat (step_of.Command command.now parcel)).space) }
+        // Memory was asked for: there is a live buffer.
+        ensures grown { OnErr result ((h : History) → Before self.now (space_after h) → (space_after h).buffers ≡ [] → ⊥) }
     {
         match command {
             Command::FreeBuffer(pointer) => self.list_freed(seat, *pointer, places),
@@ -71,8 +77,10 @@ impl Tables {
         places: &mut Vec<u64>,
     ) -> Result<(), AllocError>
         requires none { places.old.items ≡ [] }
-        ensures { OnOk result ((h : History) → Before self.now (space_after h)
+        ensures listed { OnOk result ((h : History) → Before self.now (space_after h)
             → HasEndings places.new.items (space_after h) (steps.change (space_after h) seat step.now).space) }
+        // Memory was asked for: there is a live buffer.
+        ensures grown { OnErr result ((h : History) → Before self.now (space_after h) → (space_after h).buffers ≡ [] → ⊥) }
     {
         match step {
             Step::Command { command, parcel: _ } => self.list_endings_of(seat, command, places),

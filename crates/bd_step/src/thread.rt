@@ -1,9 +1,9 @@
 //! Threads: whose seat it is, which are ready, and how they attach, enter the loop, leave it and end.
 
-ghost use Rattle.std.specs.Prelude.{ℕ, true, None, ◌≡◌, Ok, IfSome, ◌≤◌, ◌<◌, ◌^◌, if◌then◌else◌};
+ghost use Rattle.std.specs.Prelude.{ℕ, true, None, ◌≡◌, Ok, IfSome, ◌≤◌, ◌<◌, ◌^◌};
 ghost use Rattle.bd_uapi.specs.Limits.{most_seats};
 ghost use Rattle.bd_space.specs.Seats as seats;
-ghost use Rattle.bd_space.specs.{Steps.{is_pid}, Histories.{is_ready, ready_below}};
+ghost use Rattle.bd_space.specs.{Steps.{is_pid}, Histories.{ready_below}};
 ghost use Rattle.bd_space.specs.Steps as steps;
 ghost use Rattle.bd_space.specs.Outcomes.{accepted};
 ghost use Rattle.bd_space.specs.ThreadExits as exits;
@@ -71,27 +71,13 @@ impl Tables {
         }
     }
 
-    // The bit of a seat that is ready, or 0.
-    fn bit_of(&self, seat: u32, bit: u32) -> u32
-        ensures ready { Tells self.now result (λ s. if is_ready s seat then bit else 0) }
-        ensures within { result ≤ bit }
-    {
-        if self.calls.is_ready(seat) { bit } else { 0 }
-    }
-
     /// The ready seats below this one, bit i for seat i.
     pub fn ready_below(&self, seats: u32) -> u32
         requires { seats ≤ most_seats }
         ensures ready { Tells self.now result (λ s. ready_below s seats) }
         ensures bits { result < 2 ^ most_seats }
     {
-        let mut ready = 0;
-        let mut bit = 1;
-        for seat in 0..seats {
-            ready += self.bit_of(seat, bit);
-            bit *= 2;
-        }
-        ready
+        self.calls.ready_below(seats)
     }
 
     // A thread comes in, for a seat that has none.

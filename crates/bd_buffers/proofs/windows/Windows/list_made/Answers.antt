@@ -1,5 +1,5 @@
-use Rattle.std.proofs.Common.{◌∙◌, ap, sym, ◌+◌, ◌++◌, append-nil, map}
-use Rattle.std.specs.Prelude.{Result, Ok, Err, OnOk}
+use Rattle.std.proofs.Common.{ℕ, ◌≤◌, ◌∙◌, ap, sym, subst, ◌+◌, ◌++◌, append-nil, length, map}
+use Rattle.std.specs.Prelude.{Result, Ok, Err, OnOk, OnErr}
 use Rattle.bd_buffers.specs.WindowsStand.{buffers_held, made_of_buffer}
 use Rattle.bd_buffers.proofs.AllWindows.{held}
 use Rattle.bd_buffers.proofs.windows.Windows.list_made.Goals as goal
@@ -8,13 +8,22 @@ if_ok : {A E : Type 0} (r : Result A E) (P Q : Type 0) → (P → Q) → OnOk r 
 if_ok (Ok x) P Q f h = f h
 if_ok (Err e) P Q f h = tt
 
-pub returns-in-None : goal.returns-in-None
-returns-in-None c = λ s stands.
+if_err : {A E : Type 0} (r : Result A E) (P Q : Type 0) → (P → Q) → OnErr r P → OnErr r Q
+if_err (Ok x) P Q f h = tt
+if_err (Err e) P Q f h = f h
+
+pub returns-in-None-clause-listed : goal.returns-in-None-clause-listed
+returns-in-None-clause-listed c = λ s stands.
     let places = c.args.places.now.items in
     sym (append-nil places) ∙ ap (λ bs. places ++ map made_of_buffer bs) (ap buffers_held c.in-None.ensures.found ∙ held c.args.self.now (s.steps + 1) c.args.p s.processes s.buffers stands)
 
-pub returns-in-Some : goal.returns-in-Some
-returns-in-Some c =
+pub returns-in-Some-clause-listed : goal.returns-in-Some-clause-listed
+returns-in-Some-clause-listed c =
     let places = c.args.places.now.items in
     if_ok c.list_made.result _ _ (λ listed s stands.
-    listed ∙ ap (λ bs. places ++ map made_of_buffer bs) (ap buffers_held c.in-Some.ensures.found ∙ held c.args.self.now (s.steps + 1) c.args.p s.processes s.buffers stands)) c.list_made.ensures
+    listed ∙ ap (λ bs. places ++ map made_of_buffer bs) (ap buffers_held c.in-Some.ensures.found ∙ held c.args.self.now (s.steps + 1) c.args.p s.processes s.buffers stands)) c.list_made.ensures.listed
+
+pub returns-in-Some-clause-grown : goal.returns-in-Some-clause-grown
+returns-in-Some-clause-grown c =
+    if_err c.list_made.result _ _ (λ some s stands.
+    subst (λ (n : ℕ). 1 ≤ n) (ap length (ap buffers_held c.in-Some.ensures.found ∙ held c.args.self.now (s.steps + 1) c.args.p s.processes s.buffers stands)) some) c.list_made.ensures.grown

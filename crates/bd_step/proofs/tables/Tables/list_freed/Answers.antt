@@ -1,8 +1,10 @@
-use Rattle.std.proofs.Common.{List, ℕ, [], ◌∷◌, ◌++◌, ap, sym, subst, ◌∙◌}
+use Rattle.std.proofs.Common.{◌≡◌, Bool, List, ℕ, [], ◌∷◌, ◌++◌, Some, Result, Ok, Err, OnErr, find, ap, sym, subst, ◌∙◌}
 use Rattle.bd_uapi.specs.declared.command.Command.TheVariants as bc
 use Rattle.bd_space.specs.declared.step.Step.TheVariants as step_of
 use Rattle.bd_space.specs.Histories.{space_after}
 use Rattle.bd_space.specs.Steps.{change}
+use Rattle.bd_space.specs.Freeing.{buffer_at_pointer}
+use Rattle.bd_space.specs.declared.space.Buffer.{Buffer}
 use Rattle.bd_buffers.proofs.WindowLaws.{stands_in}
 use Rattle.bd_laws.proofs.Checks.{actor_acts}
 use Rattle.bd_laws.proofs.Lists.{at_pairs}
@@ -10,14 +12,14 @@ use Rattle.bd_step.specs.Ending.{HasEndings}
 use Rattle.bd_step.proofs.Ending.{Earlier, nobody_frees, somebody_frees, free_ended, unfound_ended}
 use Rattle.bd_step.proofs.tables.Tables.list_freed.Goals as goal
 
-pub returns-in_default : goal.returns-in_default
-returns-in_default c = λ h parcel before.
+pub returns-in_default-clause-listed : goal.returns-in_default-clause-listed
+returns-in_default-clause-listed c = λ h parcel before.
     let s = space_after h in
     subst (λ (ps : List ℕ). HasEndings ps s (change s c.args.seat (step_of.Command (bc.FreeBuffer c.args.pointer) parcel)).space) (sym c.requires.none)
     (nobody_frees s c.args.seat c.args.pointer parcel (sym (c.in_default.ensures.found s.steps s before)))
 
-pub returns-in_default-at_pointer : goal.returns-in_default-at_pointer
-returns-in_default-at_pointer c = λ h parcel before.
+pub returns-in_default-at_pointer-clause-listed : goal.returns-in_default-at_pointer-clause-listed
+returns-in_default-at_pointer-clause-listed c = λ h parcel before.
     let s = space_after h in
     let a = c.in-Some.actor in
     let acts = sym (c.in-Some.ensures.found s.steps s before) in
@@ -25,8 +27,8 @@ returns-in_default-at_pointer c = λ h parcel before.
     subst (λ (ps : List ℕ). HasEndings ps s (change s c.args.seat (step_of.Command (bc.FreeBuffer c.args.pointer) parcel)).space) (sym c.requires.none)
     (somebody_frees s c.args.seat c.args.pointer parcel a [] acts (unfound_ended s a.process.made c.args.pointer found))
 
-pub returns-in_ok-push : goal.returns-in_ok-push
-returns-in_ok-push c = λ h parcel before.
+pub returns-in_ok-push-clause-listed : goal.returns-in_ok-push-clause-listed
+returns-in_ok-push-clause-listed c = λ h parcel before.
     let s = space_after h in
     let a = c.in-Some.actor in
     let b = c.in-Some-at_pointer.b in
@@ -36,3 +38,20 @@ returns-in_ok-push c = λ h parcel before.
     subst (λ (ps : List ℕ). HasEndings ps s (change s c.args.seat (step_of.Command (bc.FreeBuffer c.args.pointer) parcel)).space) (sym is)
     (somebody_frees s c.args.seat c.args.pointer parcel a (b.made ∷ []) acts
     (free_ended s a.process.made c.args.pointer b (at_pairs Earlier s.buffers before.windows_stand.made.buffers_in_order) found))
+
+on_err : {T E P : Type 0} (r : Result T E) → P → OnErr r P
+on_err (Ok x) h = tt
+on_err (Err e) h = h
+
+none_there : (bs : List Buffer) (test : Buffer → Bool) (b : Buffer) → find test bs ≡ Some b → bs ≡ [] → ⊥
+none_there [] test b found none = absurd (cc)
+none_there (x ∷ bs) test b found none = absurd (cc)
+
+pub returns-in_err-push-clause-grown : goal.returns-in_err-push-clause-grown
+unfolding buffer_at_pointer
+returns-in_err-push-clause-grown c = on_err c.from_residual.result (λ h before none.
+    (let s = space_after h in
+    let a = c.in-Some.actor in
+    let acts = sym (c.in-Some.ensures.found s.steps s before) in
+    none_there s.buffers _ c.in-Some-at_pointer.b
+    (sym (c.in-Some-at_pointer.ensures.found s a.process (stands_in c.args.self.now.windows s before.windows_stand) (actor_acts s c.args.seat a acts).found)) none))

@@ -1,7 +1,8 @@
-use Rattle.std.proofs.Common.{◌≡◌, List, [], ℕ, ◌++◌, ap, sym, subst, ◌∙◌, map}
+use Rattle.std.proofs.Common.{◌≡◌, ◌≤◌, List, [], ℕ, ◌++◌, length, ap, sym, subst, ◌∙◌, map, arith}
 use Rattle.bd_space.specs.declared.step.Step.{Step}
 use Rattle.bd_space.specs.declared.step.Step.TheVariants as step_of
 use Rattle.bd_space.specs.Space.{Space}
+use Rattle.bd_space.specs.declared.space.Buffer.{Buffer}
 use Rattle.bd_space.specs.Histories.{space_after}
 use Rattle.bd_space.specs.Steps.{change}
 use Rattle.bd_space.specs.Windows.{buffers_of}
@@ -9,7 +10,7 @@ use Rattle.bd_buffers.specs.WindowsStand.{made_of_buffer}
 use Rattle.bd_buffers.proofs.WindowLaws.{stands_in}
 use Rattle.bd_laws.proofs.Always.{always_tidy}
 use Rattle.bd_step.specs.Ending.{HasEndings}
-use Rattle.bd_step.proofs.Ending.{nobody_exits_thread, nobody_exits_process, somebody_exits_thread, somebody_exits_process, if_ok}
+use Rattle.bd_step.proofs.Ending.{nobody_exits_thread, nobody_exits_process, somebody_exits_thread, somebody_exits_process, if_ok, if_err}
 use Rattle.bd_step.proofs.tables.Tables.list_received.Goals as goal
 
 -- what is listed is what the process has received
@@ -34,10 +35,16 @@ pub returns-in-Some-clause-thread : goal.returns-in-Some-clause-thread
 returns-in-Some-clause-thread c = if_ok c.list_made.result _ _ (λ listed h before.
     (let s = space_after h in
     received s c.args.seat step_of.ExitThread c.in-Some.a.process.made _ _ c.requires.none (listed s (stands_in c.args.self.now.windows s before.windows_stand))
-    (somebody_exits_thread s c.args.seat c.in-Some.a (always_tidy h).home (sym (c.in-Some.ensures.found s.steps s before))))) c.list_made.ensures
+    (somebody_exits_thread s c.args.seat c.in-Some.a (always_tidy h).home (sym (c.in-Some.ensures.found s.steps s before))))) c.list_made.ensures.listed
 
 pub returns-in-Some-clause-process : goal.returns-in-Some-clause-process
 returns-in-Some-clause-process c = if_ok c.list_made.result _ _ (λ listed h before.
     (let s = space_after h in
     received s c.args.seat step_of.ExitProcess c.in-Some.a.process.made _ _ c.requires.none (listed s (stands_in c.args.self.now.windows s before.windows_stand))
-    (somebody_exits_process s c.args.seat c.in-Some.a (always_tidy h).home (sym (c.in-Some.ensures.found s.steps s before))))) c.list_made.ensures
+    (somebody_exits_process s c.args.seat c.in-Some.a (always_tidy h).home (sym (c.in-Some.ensures.found s.steps s before))))) c.list_made.ensures.listed
+
+pub returns-in-Some-clause-grown : goal.returns-in-Some-clause-grown
+returns-in-Some-clause-grown c = if_err c.list_made.result _ _ (λ some h before none.
+    (let s = space_after h in
+    let kept = some s (stands_in c.args.self.now.windows s before.windows_stand) in
+    absurd (omega (arith, subst (λ (bs : List Buffer). 1 ≤ length (buffers_of bs c.in-Some.a.process.made)) none kept)))) c.list_made.ensures.grown
