@@ -42,7 +42,7 @@ pub(crate) fn mark_reached(suspects: &mut Suspects, waiters: &Waiters, reached: 
     ensures kept { (t : ℕ) → is_suspect suspects.old t ≡ true → is_suspect suspects.new t ≡ true }
 {
     if reached.any {
-        suspects.add_all(waiters.seats());
+        suspects.add_all(waiters.top());
         return;
     }
     for list in &reached.lists {

@@ -10,7 +10,7 @@ use std::test::Fail;
 // All seats are of one process, which was opened at this place.
 const PROCESS: u64 = 0x1_0000_0007;
 
-// One thing more for a seat to read, on this list.
+// One thing more for a seat to read, on this list. For a seat that isn't there: nobody knows whom that reaches.
 #[derive(Drop)]
 struct Come {
     list: TodoList,
@@ -73,6 +73,9 @@ impl Engine for Counts {
             *due = due.saturating_add(1);
         }
         tell(reached, step.list);
+        if step.seat >= 4 {
+            reached.any = true;
+        }
     }
 
     fn read(&mut self, seat: u32, _room: u32, reached: &mut Reached) -> u32 {
@@ -234,6 +237,18 @@ fn who_was_named_first_is_told_first(rt: HostRuntime) -> Result<(), Fail> {
     bridge.step(0, one_more(2));
     assert_eq!(rt; bridge.suspects(), 3, "each stands there once");
     assert_eq!(rt; told(rt.alloc(), &mut bridge)?, 32_31_33);
+    Ok(())
+}
+
+#[test]
+fn seats_above_all_that_have_waited_are_not_looked_at(rt: HostRuntime) -> Result<(), Fail> {
+    let mut bridge = new_bridge(rt.alloc())?;
+    bridge.step(0, one_more(4));
+    assert_eq!(rt; bridge.suspects(), 0, "nobody has waited");
+    bridge.wait(rt.alloc(), 1, READING).ok().ok_or("memory")?;
+    assert_eq!(rt; told(rt.alloc(), &mut bridge)?, 0);
+    bridge.step(0, one_more(4));
+    assert_eq!(rt; bridge.suspects(), 2, "seats 0 and 1");
     Ok(())
 }
 

@@ -1,7 +1,7 @@
 //! Those who wait, by seat.
 
 ghost use Rattle.std.specs.Prelude.{ℕ, ◌≡◌, ◌==◌, ◌<◌, Some, None, true, if◌then◌else◌, length, OnOk, OnErr, IfOk, option_map};
-ghost use Rattle.bd_bridge.specs.Rows.{row_at, AreInGroups};
+ghost use Rattle.bd_bridge.specs.Rows.{row_at, AreInGroups, AreBelow};
 
 use crate::groups::Groups;
 use std::alloc::{AllocError, Global};
@@ -31,8 +31,11 @@ pub struct Waiters {
     pub(crate) rows: Vec<Option<Waiter>>,
     pub(crate) groups: Groups,
     pub(crate) seats: u32,
+    // Behind the last seat that has waited.
+    pub(crate) top: u32,
     ghost many: { length rows.items ≡ seats },
     ghost grouped: { AreInGroups rows.items groups },
+    ghost few: { AreBelow rows.items top },
 }
 
 impl Waiters {
@@ -49,6 +52,7 @@ impl Waiters {
             rows,
             groups: Groups::new(alloc),
             seats,
+            top: 0,
         })
     }
 
@@ -57,6 +61,13 @@ impl Waiters {
         ensures { result ≡ seats_in self.now }
     {
         self.seats
+    }
+
+    /// Whoever waits has a seat below this one.
+    pub fn top(&self) -> u32
+        ensures { (t : ℕ) (w : _) → at self.now t ≡ Some w → t < result }
+    {
+        self.top
     }
 
     /// How a seat's thread waits.
@@ -83,6 +94,9 @@ impl Waiters {
         ensures err { OnErr result ((t : ℕ) → at self.new t ≡ at self.old t) }
         ensures seats { seats_in self.new ≡ seats_in self.old }
     {
+        if self.top <= seat {
+            self.top = seat + 1;
+        }
         if let Some(old) = self.get(seat) {
             if old.process == waiter.process {
                 self.rows[seat as usize] = Some(waiter);
