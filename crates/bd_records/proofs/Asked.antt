@@ -106,3 +106,39 @@ unnamed_counts objects l p o none s free =
       none_count (is_asking p o s) (λ r. same r.object o && gives_name_to p r.holder) (λ x e. grind (arith, e, (names_by p x.holder).0)) l any,
       none_count (is_carrying p o s) (λ r. same r.object o && gives_name_to p r.holder) (λ x e. grind (arith, e, (names_by p x.holder).1)) l any,
     )
+
+-- all names of a process go, none of which a reference gives
+module _ (O : Identity → Option ObjectRow) (N M : ℕ → Identity → Option NameRow) (p : ℕ) (objects : List Object) (l : List Reference) (h : CountsAre O N objects l)
+    (none : list_any (λ r. gives_name_to p r.holder) l ≡ false) (rows : (q : ℕ) (x : Identity) → M q x ≡ cond (p == q) None (N q x)) where
+  none_of : (s : Bool) → of_strength s no_count ≡ 0
+  none_of true = refl
+  none_of false = refl
+
+  no_asking : (q : ℕ) (x : Identity) (s : Bool) → (p == q) ≡ true → count_by (is_asking q x s) l ≡ 0
+  no_asking q x s e = none_count (is_asking q x s) (λ r. gives_name_to p r.holder) (λ r k. subst (λ y. gives_name_to y r.holder ≡ true) (sym (eqb-true p q e)) ((names_by q r.holder).0 (grind (arith, k)))) l none
+
+  no_carrying : (q : ℕ) (x : Identity) (s : Bool) → (p == q) ≡ true → count_by (is_carrying q x s) l ≡ 0
+  no_carrying q x s e = none_count (is_carrying q x s) (λ r. gives_name_to p r.holder) (λ r k. subst (λ y. gives_name_to y r.holder ≡ true) (sym (eqb-true p q e)) ((names_by q r.holder).1 (grind (arith, k)))) l none
+
+  pub counts_ended : CountsAre O M objects l
+  counts_ended = record {
+    totals = h.totals;
+    owed = h.owed;
+    managed = h.managed;
+    asked = λ q x s. at_asked q x s (p == q) refl;
+    unasked = h.unasked;
+    carried = λ q x s free. at_carried q x s free (p == q) refl;
+    carried_few = λ q x s. at_few q x s (p == q) refl;
+  }
+    where
+      at_asked : (q : ℕ) (x : Identity) (s b : Bool) → (p == q) ≡ b → of_strength s (asked_of (M q x)) ≡ count_by (is_asking q x s) l
+      at_asked q x s true e = ap (λ w. of_strength s (asked_of w)) (rows q x ∙ ap (λ b. cond b None (N q x)) e) ∙ none_of s ∙ sym (no_asking q x s e)
+      at_asked q x s false e = ap (λ w. of_strength s (asked_of w)) (rows q x ∙ ap (λ b. cond b None (N q x)) e) ∙ h.asked q x s
+
+      at_carried : (q : ℕ) (x : Identity) (s : Bool) → owned_in objects q x ≡ false → (b : Bool) → (p == q) ≡ b → of_strength s (carried_of (M q x)) ≡ count_by (is_carrying q x s) l
+      at_carried q x s free true e = ap (λ w. of_strength s (carried_of w)) (rows q x ∙ ap (λ b. cond b None (N q x)) e) ∙ none_of s ∙ sym (no_carrying q x s e)
+      at_carried q x s free false e = ap (λ w. of_strength s (carried_of w)) (rows q x ∙ ap (λ b. cond b None (N q x)) e) ∙ h.carried q x s free
+
+      at_few : (q : ℕ) (x : Identity) (s b : Bool) → (p == q) ≡ b → of_strength s (carried_of (M q x)) ≤ count_by (is_carrying q x s) l
+      at_few q x s true e = subst (λ n. n ≤ count_by (is_carrying q x s) l) (sym (ap (λ w. of_strength s (carried_of w)) (rows q x ∙ ap (λ b. cond b None (N q x)) e) ∙ none_of s)) (omega arith)
+      at_few q x s false e = subst (λ n. n ≤ count_by (is_carrying q x s) l) (sym (ap (λ w. of_strength s (carried_of w)) (rows q x ∙ ap (λ b. cond b None (N q x)) e))) (h.carried_few q x s)

@@ -1,5 +1,5 @@
 -- Names that were given since they were settled.
-use Rattle.std.proofs.Common.{◌≡◌, ℕ, ◌==◌, ◌≤◌, Bool, true, false, not, ◌&&◌, cond, List, [], ◌∷◌, ◌++◌, filter, Option, Some, None, is_some, refl, sym, ap, ◌∙◌, subst, append_assoc}
+use Rattle.std.proofs.Common.{◌≡◌, ℕ, ◌==◌, ◌≤◌, ◌+◌, ◌-◌, min, Bool, true, false, not, ◌&&◌, cond, List, [], ◌∷◌, ◌++◌, filter, Option, Some, None, is_some, refl, sym, ap, ◌∙◌, subst, append_assoc, append-nil, length, length-append, arith}
 use Rattle.std.specs.List.{count_by}
 use Rattle.std.proofs.lemmas.Bool.{eq-eqb}
 use Rattle.bd_ways.specs.Words.{Identity, Object, Reference, Name, same}
@@ -7,9 +7,9 @@ use Rattle.bd_space.proofs.Identities.{same_self}
 use Rattle.bd_space.specs.References.{owned_in, is_asking}
 use Rattle.bd_space.specs.Names.{named_in, number_in}
 use Rattle.bd_handles.specs.{Numbers.{new_number, with_number}, Sound.{Sound, has_object}}
-use Rattle.bd_handles.proofs.{Naming.{came_number}, Freeing.{free_unnamed}, Singles.{last_dropped}}
+use Rattle.bd_handles.proofs.{Naming.{came_number}, Freeing.{free_unnamed}, Singles.{last_dropped}, Given.{nil_of}}
 use Rattle.bd_records.specs.declared.{records.Records.{Records}, names.Names.{Names}, row.ObjectRow.{ObjectRow}, row.NameRow.{NameRow}}
-use Rattle.bd_records.specs.{Count.{no_count, of_strength}, Counting.{asked_of, carried_of, is_carrying}, NameRows.{new_row}, Names.{name_at, number_of}, NamesAre.{NamesAre}, Counted.{CountsAre}, Since.{IsBlank, AreBlank, Since}}
+use Rattle.bd_records.specs.{Count.{no_count, of_strength}, Counting.{asked_of, carried_of, is_carrying}, NameRows.{new_row}, Names.{name_at, number_of}, NamesAre.{NamesAre}, Counted.{CountsAre}, Since.{IsBlank, AreBlank, Since, Settled, KeepsSettled}, Room.{Uses}}
 
 -- ---- blank names
 
@@ -81,3 +81,37 @@ pub blank_counts : (O : Identity → Option ObjectRow) (N : ℕ → Identity →
     → (s : Bool) → owned_in objects p o ≡ false → (count_by (is_asking p o s) l ≡ 0) × (count_by (is_carrying p o s) l ≡ 0)
 blank_counts O N objects l h p o blank s free =
     (sym (h.asked p o s) ∙ ap (of_strength s) blank.0 ∙ zero_counts s, sym (h.carried p o s free) ∙ ap (of_strength s) blank.1 ∙ zero_counts s)
+
+-- ---- none can be taken back
+
+none_given : (l given : List Name) → l ≡ l ++ given → given ≡ []
+none_given l given e = let long = ap length e ∙ length-append l given in nil_of given (omega arith)
+
+-- no name is given where none was
+pub nothing_since : (t : Records) (names : List Name) → Settled t names → t.given.items ≡ []
+nothing_since t names s = none_given names t.given.items s.grows
+
+-- the names are these from now on
+pub settled_now : (t u : Records) (names left : List Name) → Settled t names → NamesAre u.names left → u.given.items ≡ t.given.items → Settled u left
+settled_now t u names left s are same =
+    let none = same ∙ nothing_since t names s in
+    record { stands = are; grows = sym (append-nil left) ∙ ap (λ (g : List Name). left ++ g) (sym none); blank = subst (AreBlank u.names) (sym none) tt }
+
+pub settled_kept : (t u : Records) → ((l : List Name) → NamesAre t.names l → NamesAre u.names l) → u.given.items ≡ t.given.items → KeepsSettled t u
+settled_kept t u kept same names s = settled_now t u names names s (kept names s.stands) same
+
+-- one that takes no room after another
+pub uses_nothing : (t u v : Records) → Uses t u 0 0 0 → Uses u v 0 0 0 → Uses t v 0 0 0
+uses_nothing t u v a b = record {
+  objects_fit = omega (arith, a.objects_fit, b.objects_fit);
+  references_fit = omega (arith, a.references_fit, b.references_fit);
+  names_fit = λ p. omega (arith, a.names_fit p, b.names_fit p);
+}
+
+-- the less of two, one of which stays or grows
+pub less_stays : (a b o : ℕ) → a ≤ b → min a o ≤ min b o + 0
+less_stays a b o h = omega (arith, h)
+
+-- one fewer of either
+pub one_fewer : (most a b m n : ℕ) → a ≤ b + 1 → n ≤ m + 1 → min a (most - m) ≤ min b (most - n) + 1
+one_fewer most a b m n h k = omega (arith, h, k)

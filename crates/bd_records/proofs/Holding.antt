@@ -145,3 +145,9 @@ or_true false b h = absurd cc
 pub or_false : (a b : Bool) → a ≡ false → (a || b) ≡ b
 or_false true b h = absurd cc
 or_false false b h = refl
+
+pub asked_counts : (p : ℕ) (o : Identity) (l : List Reference) → list_any (λ r. same r.object o && is_asked_by p r.holder) l
+    ≡ (nat_lt 0 (count_by (is_asking p o false) l) || nat_lt 0 (count_by (is_asking p o true) l))
+asked_counts p o l =
+    any_either (λ r. same r.object o && is_asked_by p r.holder) (is_asking p o false) (is_asking p o true) (λ x. grind (arith, either x.strong (same x.object o && is_asked_by p x.holder))) l
+    ∙ (λ i. any_counts (is_asking p o false) l i || any_counts (is_asking p o true) l i)

@@ -2,6 +2,7 @@ mod Keyed
 mod Naming
 mod Tallies
 mod Lists
+mod Pairing
 mod Buffering
 mod Holding
 mod Named
@@ -12,3 +13,7 @@ mod Disowning
 mod Possessing
 mod Given
 mod Forgetting
+mod Ending
+mod Stepping
+mod AskedFor
+mod Dropping

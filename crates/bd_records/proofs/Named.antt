@@ -1,5 +1,5 @@
 -- A space's names, when a record came or went.
-use Rattle.std.proofs.Common.{◌≡◌, ℕ, ◌<◌, ◌≤◌, ◌==◌, ◌&&◌, Bool, true, false, not, cond, List, [], ◌∷◌, ◌++◌, filter, Option, Some, None, is_some, refl, sym, ap, ◌∙◌, subst, arith, Result, Ok, Err, IfOk, OnOk, OnErr, IfSome, ◌^◌, inl, inr}
+use Rattle.std.proofs.Common.{◌≡◌, ℕ, ◌<◌, ◌≤◌, ◌==◌, ◌&&◌, Bool, true, false, not, cond, List, [], ◌∷◌, ◌++◌, filter, find, Option, Some, None, is_some, refl, sym, ap, ◌∙◌, subst, arith, Result, Ok, Err, IfOk, OnOk, OnErr, IfSome, ◌^◌, inl, inr}
 use Rattle.std.specs.Prelude.{nat_lt, IfNone}
 use Rattle.std.proofs.lemmas.Bool.Decides.{nat_tests}
 use Rattle.std.proofs.lemmas.Bool.{and_parts, eqb-true, eq-eqb, cases_lt}
@@ -12,7 +12,7 @@ use Rattle.bd_chains.specs.Chain.{is_at}
 use Rattle.bd_keys.specs.Tables.{Makes}
 use Rattle.std.specs.Prelude.{option_map}
 use Rattle.bd_records.specs.NameRows.{object_of}
-use Rattle.bd_handles.specs.{Numbers.{new_number, with_number, IsFull, IsNextNumber}, Sound.{has_object}}
+use Rattle.bd_handles.specs.{Numbers.{new_number, with_number, IsFull, IsNextNumber}, Sound.{has_number, has_object}}
 use Rattle.bd_handles.proofs.{Limits.{fits_push, fits_filter, past_unnamed}, FreeNumbers.{free_first, free_past}, Freeing.{used_named, free_unnamed}}
 use Rattle.bd_handles.proofs.Naming.{came_sound, came_object, came_number, gone_sound, gone_object, gone_number, none_gone}
 
@@ -136,3 +136,42 @@ here_number (Ok n) p o N M h = h p o ∙ ap (λ b. cond b (Some n) (N p o)) here
   where
     here : ((p == p) && same o o) ≡ true
     here = rw (eq-eqb p p refl, same_self o) refl
+
+none_either : {A : Type 0} (b : Bool) → (let n : Option A = None in n ≡ cond b n n)
+none_either true = refl
+none_either false = refl
+
+-- all names of a process go
+module _ (p : ℕ) where
+  abbrev other : Name → Bool
+  other m = not (m.process == p)
+
+  -- none of one that goes is found, and each of another is
+  left_found : {A : Type 0} (f : Name → A) (k : Name → Bool) (q : ℕ) → ((m : Name) → k m ≡ true → m.process ≡ q) → (l : List Name)
+      → option_map f (find k (filter other l)) ≡ cond (p == q) None (option_map f (find k l))
+  left_found f k q of [] = none_either (p == q)
+  left_found f k q of (m ∷ l) = at (m.process == p) refl (k m) refl (p == q) refl (left_found f k q of l)
+    where
+      at : (a : Bool) → (m.process == p) ≡ a → (b : Bool) → k m ≡ b → (d : Bool) → (p == q) ≡ d → option_map f (find k (filter other l)) ≡ cond (p == q) None (option_map f (find k l))
+          → option_map f (find k (cond (not a) (m ∷ filter other l) (filter other l))) ≡ cond d None (option_map f (cond b (Some m) (find k l)))
+      at true e true g true i more = more ∙ ap (λ c. cond c None (option_map f (find k l))) i
+      at true e true g false i more = absurd (let h : (p == q) ≡ true = subst (λ r. (p == r) ≡ true) (of m g) (subst (λ r. (r == m.process) ≡ true) (eqb-true m.process p e) (eq-eqb m.process m.process refl)) in cc)
+      at true e false g d i more = more ∙ ap (λ c. cond c None (option_map f (find k l))) i
+      at false e true g true i more = absurd (let h : (m.process == p) ≡ true = subst (λ r. (m.process == r) ≡ true) (of m g ∙ sym (eqb-true p q i)) (eq-eqb m.process m.process refl) in cc)
+      at false e true g false i more = ap (λ c. option_map f (cond c (Some m) (find k (filter other l)))) g
+      at false e false g d i more = ap (λ c. option_map f (cond c (Some m) (find k (filter other l)))) g ∙ more ∙ ap (λ c. cond c None (option_map f (find k l))) i
+
+  pub ended : (t u : Names) → ((q m : ℕ) → named_by u q m ≡ cond (p == q) None (named_by t q m)) → ((q : ℕ) (x : Identity) → number_of u q x ≡ cond (p == q) None (number_of t q x))
+      → (l : List Name) → NamesAre t l → NamesAre u (filter (λ m. not (m.process == p)) l)
+  ended t u named numbers l h = record {
+    sound = gone_sound l other h.sound;
+    objects_are = λ q n. left_found (λ (m : Name). m.object) (has_number q n) q (λ m e. of_number q n m e) l ∙ ap (λ y. cond {A = Option Identity} (p == q) None y) (h.objects_are q n) ∙ sym (named q n);
+    numbers_are = λ q x. left_found (λ (m : Name). m.number) (has_object q x) q (λ m e. of_object q x m e) l ∙ ap (λ y. cond {A = Option ℕ} (p == q) None y) (h.numbers_are q x) ∙ sym (numbers q x);
+    fits = fits_filter other l h.fits;
+  }
+    where
+      of_number : (q n : ℕ) (m : Name) → has_number q n m ≡ true → m.process ≡ q
+      of_number q n m e = eqb-true m.process q (and_parts (m.process == q) (m.number == n) e).0
+
+      of_object : (q : ℕ) (x : Identity) (m : Name) → has_object q x m ≡ true → m.process ≡ q
+      of_object q x m e = eqb-true m.process q (and_parts (m.process == q) (same m.object x) e).0

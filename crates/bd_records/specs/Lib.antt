@@ -5,8 +5,13 @@ pub mod NameRows
 pub mod Names
 pub mod Counting
 pub mod Counted
+pub mod Lying
 pub mod Buffers
 pub mod Owned
 pub mod Records
 pub mod NamesAre
 pub mod Since
+pub mod Room
+pub mod Carried
+pub mod Ending
+pub mod Asks

@@ -21,3 +21,10 @@ pub record Since (t : Records) (base names : List Name) : Type 0 where
 -- the room for more names of the process
 abbrev pub given_room : Records → ℕ → ℕ
 given_room t p = min (name_room t.names p) (vec_capacity t.given - vec_len t.given)
+
+-- none of the names can be taken back
+abbrev pub Settled : Records → List Name → Type 0
+Settled t names = Since t names names
+
+abbrev pub KeepsSettled : Records → Records → Type 0
+KeepsSettled old new = (names : List Name) → Settled old names → Settled new names

@@ -1,6 +1,8 @@
 //! Names that come and go, in the records that count what carries them.
 
-ghost use Rattle.std.specs.Prelude.{ℕ, ◌≡◌, ◌≤◌, ◌+◌, true, false, not, filter, is_some, List, OnOk, OnErr};
+ghost use Rattle.std.specs.List.{list_any};
+ghost use Rattle.bd_numbered.specs.Numbered.{slot_at};
+ghost use Rattle.std.specs.Prelude.{ℕ, ◌≡◌, ◌==◌, ◌≤◌, None, true, false, not, filter, is_some, List, OnOk, OnErr};
 ghost use Rattle.bd_keys.specs.Tables as tables;
 ghost use Rattle.bd_space.specs.declared.space.{Object.{Object}, Reference.{Reference}};
 ghost use Rattle.bd_space.specs.declared.space.Name as declared;
@@ -16,13 +18,13 @@ use bd_space::{Identity, Name};
 use std::alloc::AllocError;
 
 impl Records {
-    ghost use Rattle.bd_records.specs.{Records.{RecordsAre, Makes, reference_room}, NamesAre.{NamesAre}, Names.{name_at}, Since.{Since, given_room}};
+    ghost use Rattle.bd_records.specs.{Records.{RecordsAre, Makes, reference_room}, NamesAre.{NamesAre}, Names.{name_at}, Since.{Since, Settled, given_room}, Room.{Uses, UsesNothingBut}};
 
     /// Makes room for more names of the process, and changes nothing besides.
     pub fn reserve_names(&mut self, p: u64, more: usize, near: usize) -> Result<(), AllocError>
         ensures stands { Makes self.old self.new (λ l. l) }
         ensures names { (base names : List declared.Name) → Since self.old base names → Since self.new base names }
-        ensures uses { (q : ℕ) → given_room self.old q ≤ given_room self.new q }
+        ensures uses { Uses self.old self.new 0 0 0 }
         ensures room { OnOk result (more ≤ given_room self.new p) }
         ensures grown { OnErr result (more ≤ given_room self.old p → ⊥) }
     {
@@ -48,7 +50,7 @@ impl Records {
         ensures err { OnErr result (self.new ≡ self.old) }
         ensures full { OnErr result ((l : List declared.Name) → NamesAre self.old.names l → IsFull from_zero p l o) }
         ensures room { reference_room self.new ≡ reference_room self.old }
-        ensures uses { (q : ℕ) → given_room self.old q ≤ given_room self.new q + 1 }
+        ensures uses { Uses self.old self.new 0 0 1 }
     {
         if let Some(_) = self.names.number_near(p, o, near.number, near.process) {
             return Ok(());
@@ -70,7 +72,7 @@ impl Records {
     pub fn settle_names(&mut self)
         ensures stands { Makes self.old self.new (λ l. l) }
         ensures names { (base names : List declared.Name) → Since self.old base names → Since self.new names names }
-        ensures uses { (q : ℕ) → given_room self.old q ≤ given_room self.new q }
+        ensures uses { Uses self.old self.new 0 0 0 }
     {
         self.given.clear();
     }
@@ -79,11 +81,22 @@ impl Records {
     pub fn roll_back_names(&mut self)
         ensures stands { (base names : List declared.Name) → Since self.old base names → Makes self.old self.new (λ l. l) }
         ensures names { (base names : List declared.Name) → Since self.old base names → Since self.new base base }
-        ensures uses { (q : ℕ) → given_room self.old q ≤ given_room self.new q }
+        ensures uses { Uses self.old self.new 0 0 0 }
     {
         while let Some(m) = self.given.pop() {
             remove_name(&mut self.names, m.process, m.object, m.number, 0);
         }
+    }
+
+    /// All names of the process go, and its row with them: no reference gives one.
+    pub fn remove_process_names(&mut self, p: u64)
+        ensures stands { (objects : List Object) (l : List Reference) → list_any (λ r. refer.gives_name_to p r.holder) l ≡ false
+            → RecordsAre self.old objects l → RecordsAre self.new objects l }
+        ensures names { (names : List declared.Name) → Settled self.old names → Settled self.new (filter (λ m. not (m.process == p)) names) }
+        ensures gone { slot_at self.new.names.rows p ≡ None }
+        ensures uses { UsesNothingBut p self.old self.new }
+    {
+        self.names.remove_process(p, 0);
     }
 
     /// The process's name of the object goes, if it has one: the object is its own, or no reference carries the name.
@@ -91,6 +104,8 @@ impl Records {
         ensures stands { (objects : List Object) (l : List Reference) → names_of.is_named_in objects l p o ≡ false
             → RecordsAre self.old objects l → RecordsAre self.new objects l }
         ensures names { tables.Makes (NamesAre self.old.names) (NamesAre self.new.names) (λ l. filter (λ m. not (has_object p o m)) l) }
+        ensures settled { (names : List declared.Name) → Settled self.old names → Settled self.new (filter (λ m. not (has_object p o m)) names) }
+        ensures uses { Uses self.old self.new 0 0 0 }
         ensures room { reference_room self.new ≡ reference_room self.old }
     {
         remove_name(&mut self.names, p, o, near.number, near.process);

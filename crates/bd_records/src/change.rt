@@ -1,6 +1,6 @@
 //! Objects that come and go.
 
-ghost use Rattle.std.specs.Prelude.{◌≡◌, ◌==◌, ◌≤◌, ◌++◌, ◌∷◌, [], false, not, filter, map, List, OnOk, OnErr};
+ghost use Rattle.std.specs.Prelude.{◌≡◌, ◌==◌, ◌≤◌, ◌++◌, ◌∷◌, [], false, not, filter, map, length, List, OnOk, OnErr};
 ghost use Rattle.bd_space.specs.Words.{same, changed};
 ghost use Rattle.bd_space.specs.References as refer;
 ghost use Rattle.bd_space.specs.declared.space.{Object.{Object}, Reference.{Reference}};
@@ -13,14 +13,15 @@ use bd_space::Identity;
 use std::alloc::AllocError;
 
 impl Records {
-    ghost use Rattle.bd_nodes.specs.New.{IsNewIn};
-    ghost use Rattle.bd_records.specs.Records.{RecordsAre, Makes, new_room, reference_room};
+    ghost use Rattle.bd_nodes.specs.New.{IsNewIn, AreNewIn};
+    ghost use Rattle.bd_records.specs.{Records.{RecordsAre, Makes, new_room, reference_room}, Room.{Uses}, Since.{KeepsSettled}};
 
     /// Makes room for so many objects more. Changes nothing else.
     pub fn reserve_objects(&mut self, more: usize) -> Result<(), AllocError>
         ensures stands { Makes self.old self.new (λ l. l) }
         ensures names { self.new.names ≡ self.old.names }
-        ensures uses { new_room self.old ≤ new_room self.new }
+        ensures settled { KeepsSettled self.old self.new }
+        ensures uses { Uses self.old self.new 0 0 0 }
         ensures references { reference_room self.new ≡ reference_room self.old }
         ensures room { OnOk result (more ≤ new_room self.new) }
         ensures grown { OnErr result (more ≤ new_room self.old → ⊥) }
@@ -70,6 +71,8 @@ impl Records {
         ensures stands { (objects : List Object) (l : List Reference) → IsNewIn objects x
             → RecordsAre self.old objects l → RecordsAre self.new (objects ++ x ∷ []) l }
         ensures names { self.new.names ≡ self.old.names }
+        ensures settled { KeepsSettled self.old self.new }
+        ensures uses { Uses self.old self.new 1 0 0 }
     {
         self.owned.push(&x);
         self.objects.insert(ObjectRow {
@@ -80,11 +83,26 @@ impl Records {
         })
     }
 
+    /// Takes in objects that are new, also beside each other.
+    pub fn push_all(&mut self, made: &[space::Object])
+        requires { length made.now ≤ new_room self.old }
+        ensures stands { (objects : List Object) (l : List Reference) → AreNewIn objects made.now
+            → RecordsAre self.old objects l → RecordsAre self.new (objects ++ made.now) l }
+        ensures settled { KeepsSettled self.old self.new }
+        ensures uses { Uses self.old self.new (length made.now) 0 0 }
+    {
+        for x in made {
+            self.add_object(*x);
+        }
+    }
+
     /// Notes what the object's owner was told last: whether the object is held, and whether strongly.
     pub fn set_told(&mut self, o: Identity, weak: bool, strong: bool, near: usize)
         ensures stands { (objects : List Object) (l : List Reference) → RecordsAre self.old objects l → RecordsAre self.new
             (changed (λ x. same x.id o) (λ x. record x { told_weak = weak; told_strong = strong }) objects) l }
         ensures names { self.new.names ≡ self.old.names }
+        ensures settled { KeepsSettled self.old self.new }
+        ensures uses { Uses self.old self.new 0 0 0 }
     {
         self.objects.set_told(near, o, weak, strong);
     }
@@ -94,6 +112,8 @@ impl Records {
         ensures stands { (objects : List Object) (l : List Reference) → refer.held_in l o ≡ false
             → RecordsAre self.old objects l → RecordsAre self.new (filter (λ x. not (same x.id o)) objects) l }
         ensures names { self.new.names ≡ self.old.names }
+        ensures settled { KeepsSettled self.old self.new }
+        ensures uses { Uses self.old self.new 0 0 0 }
     {
         if let Some(w) = self.objects.row_near(o, near) {
             self.owned.remove(&w.object);

@@ -1,11 +1,15 @@
-//! Room for the numbers of names.
+//! The numbers of names by object: room for more, and those of a process that ends.
 
-ghost use Rattle.std.specs.Prelude.{ℕ, ◌≡◌, ◌≤◌, OnOk, OnErr};
+ghost use Rattle.std.specs.Prelude.{ℕ, ◌≡◌, ◌==◌, ◌≤◌, ◌<◌, ◌+◌, ◌^◌, false, None, Some, is_some, IfNone, IfSome, OnOk, OnErr};
 ghost use Rattle.std.specs.HashMap.{spare};
 ghost use Rattle.bd_space.specs.declared.step.Identity as declared;
 ghost use Rattle.bd_handles.specs.Keys.{number_at};
+ghost use Rattle.bd_numbered.specs.Numbered.{value_at};
+ghost use Rattle.bd_records.specs.NameRows.{object_in};
 
-use bd_handles::ObjectKey;
+use crate::row::NameRow;
+use bd_handles::{ObjectKey, remove_number};
+use bd_numbered::Numbered;
 use std::alloc::AllocError;
 use std::collections::HashMap;
 
@@ -20,4 +24,54 @@ pub(crate) fn reserve_numbers(
     ensures grown { OnErr result (more ≤ spare numbers.old → ⊥) }
 {
     numbers.reserve(more)
+}
+
+/// The next number of the process above this one that names something. Looks at each up to it.
+pub(crate) fn next_above(rows: &Numbered<NameRow>, p: u64, n: u32, near: usize) -> Option<u32>
+    ensures none { IfNone result ((m : ℕ) → n + 1 ≤ m → m < 2 ^ 32 → value_at rows.now p m ≡ None) }
+    ensures from { IfSome result (λ k. n + 1 ≤ k) }
+    ensures before { IfSome result (λ k. (m : ℕ) → n + 1 ≤ m → m < k → value_at rows.now p m ≡ None) }
+{
+    if n == u32::MAX {
+        return None;
+    }
+    rows.next(p, n + 1, near)
+}
+
+// What stands under the number is no longer found by its object.
+fn remove_at(
+    rows: &Numbered<NameRow>,
+    numbers: &mut HashMap<ObjectKey, u32>,
+    p: u64,
+    n: u32,
+    near: usize,
+)
+    ensures gone { (x : declared.Identity) → object_in rows.now p n ≡ Some x → number_at numbers.new p x ≡ None }
+    ensures still { (x : declared.Identity) → number_at numbers.old p x ≡ None → number_at numbers.new p x ≡ None }
+    ensures rest { (q : ℕ) (x : declared.Identity) → (p == q) ≡ false → number_at numbers.new q x ≡ number_at numbers.old q x }
+    ensures uses { spare numbers.old ≤ spare numbers.new }
+{
+    match rows.get(p, n, near) {
+        Some(row) => remove_number(numbers, p, row.object),
+        None => {}
+    }
+}
+
+/// What stands in the process's row is no longer found by its object.
+pub(crate) fn remove_numbers(
+    rows: &Numbered<NameRow>,
+    numbers: &mut HashMap<ObjectKey, u32>,
+    p: u64,
+    near: usize,
+)
+    ensures gone { (m : ℕ) (x : declared.Identity) → m < 2 ^ 32 → object_in rows.now p m ≡ Some x → number_at numbers.new p x ≡ None }
+    ensures still { (x : declared.Identity) → number_at numbers.old p x ≡ None → number_at numbers.new p x ≡ None }
+    ensures rest { (q : ℕ) (x : declared.Identity) → (p == q) ≡ false → number_at numbers.new q x ≡ number_at numbers.old q x }
+    ensures uses { spare numbers.old ≤ spare numbers.new }
+{
+    let mut next = rows.next(p, 0, near);
+    while let Some(n) = next {
+        remove_at(rows, numbers, p, n, near);
+        next = next_above(rows, p, n, near);
+    }
 }

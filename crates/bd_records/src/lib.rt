@@ -3,11 +3,17 @@
 
 mod buffers;
 mod called;
+mod carried;
 mod change;
 mod count;
 mod counting;
+mod dropped;
+mod exits;
 mod keys;
 mod listed;
+mod listing;
+mod look;
+mod lying;
 mod names;
 mod objects;
 mod owned;
@@ -16,8 +22,11 @@ mod row;
 mod slots;
 mod turning;
 
+pub use carried::CarriedObjects;
 pub use count::Count;
 pub use listed::{give_name, name_number, named_object, new_names, next_number, remove_name};
+pub use listing::OwnedObjects;
+pub use lying::Lying;
 pub use names::Names;
 pub use objects::Objects;
 pub use owned::Owned;

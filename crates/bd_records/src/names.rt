@@ -1,6 +1,6 @@
 //! Names' records, in each process's vector by number.
 
-ghost use Rattle.std.specs.Prelude.{ℕ, ◌≡◌, ◌==◌, ◌≤◌, ◌<◌, ◌+◌, ◌&&◌, true, Some, None, is_some, option_map, ◌^◌, IfOk, IfSome, IfNone, OnOk, OnErr, if◌then◌else◌};
+ghost use Rattle.std.specs.Prelude.{ℕ, ◌≡◌, ◌==◌, ◌≤◌, ◌<◌, ◌+◌, ◌&&◌, true, false, Some, None, is_some, option_map, ◌^◌, IfOk, IfSome, IfNone, OnOk, OnErr, if◌then◌else◌};
 ghost use Rattle.bd_space.specs.Words.{same};
 ghost use Rattle.bd_space.specs.declared.step.Identity as declared;
 ghost use Rattle.bd_handles.specs.Keys.{number_at};
@@ -9,7 +9,7 @@ ghost use Rattle.bd_records.specs.Counting as spec;
 
 use crate::count::Count;
 use crate::counting::name_turned;
-use crate::keys::reserve_numbers;
+use crate::keys::{remove_numbers, reserve_numbers};
 use crate::row::NameRow;
 use bd_handles::{NumbersFull, ObjectKey, insert_number, number_of, remove_number};
 use bd_numbered::Numbered;
@@ -25,10 +25,11 @@ pub struct Names {
     pub(crate) numbers: HashMap<ObjectKey, u32>,
     ghost found: { (p : ℕ) (o : declared.Identity) (n : ℕ) → object_in rows p n ≡ Some o → number_at numbers p o ≡ Some n },
     ghost leads: { (p : ℕ) (o : declared.Identity) (n : ℕ) → number_at numbers p o ≡ Some n → object_in rows p n ≡ Some o },
+    ghost small: { (p : ℕ) (o : declared.Identity) (n : ℕ) → number_at numbers p o ≡ Some n → n ≤ 4294967294 },
 }
 
 impl Names {
-    ghost use Rattle.bd_numbered.specs.Numbered.{IsFreeAt};
+    ghost use Rattle.bd_numbered.specs.Numbered.{IsFreeAt, slot_at};
     ghost use Rattle.bd_chains.specs.Chain.{is_at};
     ghost use Rattle.bd_records.specs.Names.{number_of, named_by, name_at, name_room};
 
@@ -205,5 +206,18 @@ impl Names {
             let _row = self.rows.remove(p, k, near);
             remove_number(&mut self.numbers, p, o);
         }
+    }
+    /// All names of the process go, and its row with them.
+    pub fn remove_process(&mut self, p: u64, near: usize)
+        ensures named { (q m : ℕ) → named_by self.new q m ≡ (if p == q then None else named_by self.old q m) }
+        ensures numbers { (q : ℕ) (x : declared.Identity) → number_of self.new q x
+            ≡ (if p == q then None else number_of self.old q x) }
+        ensures names { (q : ℕ) (x : declared.Identity) → name_at self.new q x
+            ≡ (if p == q then None else name_at self.old q x) }
+        ensures row { slot_at self.new.rows p ≡ None }
+        ensures uses { (q : ℕ) → (p == q) ≡ false → name_room self.old q ≤ name_room self.new q }
+    {
+        remove_numbers(&self.rows, &mut self.numbers, p, near);
+        self.rows.close(p, near);
     }
 }

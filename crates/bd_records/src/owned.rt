@@ -138,8 +138,8 @@ impl Owned {
         push_ids(self.of(p), touched)
     }
 
-    // The objects of the process, in the order in which they came.
-    fn of(&self, p: u64) -> Items<'_, Possession>
+    /// The objects of the process, in the order in which they came.
+    pub(crate) fn of(&self, p: u64) -> Items<'_, Possession>
         ensures { Tells (OwnedAre self.now) result (λ objects. map possession (filter (λ x. x.owner == p) objects)) }
     {
         self.lists.chains.items_on(self.lists.numbers.of(p))

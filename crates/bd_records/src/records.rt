@@ -7,6 +7,7 @@ ghost use Rattle.bd_space.specs.References as refer;
 ghost use Rattle.bd_space.specs.declared.space.{Object.{Object}, Reference.{Reference}};
 
 use crate::buffers::Buffers;
+use crate::lying::Lying;
 use crate::names::Names;
 use crate::objects::Objects;
 use crate::owned::Owned;
@@ -37,25 +38,29 @@ pub struct Hold {
 }
 
 // The objects of these references come behind what is there.
-fn push_objects(
-    references: Items<'_, Reference>,
+pub(crate) fn push_objects(
+    references: Items<'_, Lying>,
     touched: &mut Vec<Identity>,
 ) -> Result<(), AllocError>
-    ensures { OnOk result (touched.new.items ≡ touched.old.items ++ map (λ r. r.object) references.entry) }
+    ensures pushed { OnOk result (touched.new.items
+        ≡ touched.old.items ++ map (λ r. r.object) (map (λ v. v.reference) references.entry)) }
+    // Memory was asked for: there is one.
+    ensures grown { OnErr result (references.entry ≡ [] → ⊥) }
 {
-    for r in references {
-        touched.push(r.object)?;
+    for v in references {
+        touched.push(v.reference.object)?;
     }
     Ok(())
 }
 
 impl Records {
     ghost use Rattle.bd_records.specs.Records.{RecordsAre, IsHomed, Makes, Tells, TellsOfOthers, reference_room};
-    ghost use Rattle.bd_records.specs.NamesAre.{KeepsNames};
+    ghost use Rattle.bd_records.specs.{NamesAre.{KeepsNames}, Names.{named_by}, Since.{Settled, KeepsSettled}, Room.{Uses}};
 
     /// No objects, no references.
     pub fn new(alloc: Global) -> Records
-        ensures { RecordsAre result [] [] }
+        ensures stands { RecordsAre result [] [] }
+        ensures settled { Settled result [] }
     {
         Records {
             objects: Objects::new(alloc),
@@ -70,7 +75,8 @@ impl Records {
     /// Makes room for more references, and changes nothing besides, whatever it answers.
     pub fn reserve(&mut self, more: usize) -> Result<(), AllocError>
         ensures stands { Makes self.old self.new (λ l. l) }
-        ensures uses { reference_room self.old ≤ reference_room self.new }
+        ensures settled { KeepsSettled self.old self.new }
+        ensures uses { Uses self.old self.new 0 0 0 }
         ensures room { OnOk result (more ≤ reference_room self.new) }
         // Refused where there was no room: memory, or numbers for `made`.
         ensures grown { OnErr result (more ≤ reference_room self.old → ⊥) }
@@ -152,7 +158,8 @@ impl Records {
         ensures stands { (objects : List Object) (l : List Reference) → IsHomed self.old objects r
             → RecordsAre self.old objects l → RecordsAre self.new objects (l ++ r ∷ []) }
         ensures names { KeepsNames self.old.names self.new.names }
-        ensures uses { reference_room self.old ≤ reference_room self.new + 1 }
+        ensures settled { KeepsSettled self.old self.new }
+        ensures uses { Uses self.old self.new 0 1 0 }
     {
         turn(&mut self.objects, &mut self.names, r, true, near);
         self.held.push(r);
@@ -163,7 +170,8 @@ impl Records {
     pub fn drop_asked(&mut self, p: u64, o: Identity, strong: bool, near: Near)
         ensures stands { Makes self.old self.new (λ l. without_first (refer.is_asking p o strong) l) }
         ensures names { KeepsNames self.old.names self.new.names }
-        ensures uses { reference_room self.old ≤ reference_room self.new }
+        ensures settled { KeepsSettled self.old self.new }
+        ensures uses { Uses self.old self.new 0 0 0 }
     {
         if self.is_asked(p, o, strong, near) {
             let r = Reference {
@@ -180,7 +188,8 @@ impl Records {
     pub fn drop_shaken(&mut self, o: Identity, strong: bool, near: Near)
         ensures stands { Makes self.old self.new (λ l. without_first (refer.is_shaking o strong) l) }
         ensures names { KeepsNames self.old.names self.new.names }
-        ensures uses { reference_room self.old ≤ reference_room self.new }
+        ensures settled { KeepsSettled self.old self.new }
+        ensures uses { Uses self.old self.new 0 0 0 }
     {
         if self.is_shaken(o, strong, near.object) {
             let r = Reference {
@@ -197,7 +206,8 @@ impl Records {
     pub fn remove_of_owner(&mut self, o: Identity, near: usize)
         ensures stands { Makes self.old self.new (λ l. filter (λ r. not (same r.object o && refer.is_of_owner r.holder)) l) }
         ensures names { KeepsNames self.old.names self.new.names }
-        ensures uses { reference_room self.old ≤ reference_room self.new }
+        ensures settled { KeepsSettled self.old self.new }
+        ensures uses { Uses self.old self.new 0 0 0 }
     {
         self.objects.remove_of_owner(near, o);
     }
@@ -205,8 +215,10 @@ impl Records {
     /// Drops all references to the object that the process asked for.
     pub fn drop_all_asked(&mut self, p: u64, o: Identity, near: Near)
         ensures stands { Makes self.old self.new (λ l. filter (λ r. not (same r.object o && refer.is_asked_by p r.holder)) l) }
+        ensures named { (q m : ℕ) → named_by self.new.names q m ≡ named_by self.old.names q m }
         ensures names { KeepsNames self.old.names self.new.names }
-        ensures uses { reference_room self.old ≤ reference_room self.new }
+        ensures settled { KeepsSettled self.old self.new }
+        ensures uses { Uses self.old self.new 0 0 0 }
     {
         if let Some(w) = self.names.row_near(p, o, near.number, near.process) {
             self.objects.subtract(near.object, o, w.asked);
@@ -227,7 +239,8 @@ impl Records {
         ensures stands { Makes self.old self.new (λ l. without_first (λ r. refer.is_of_buffer b r.holder) l) }
         ensures any { Tells self.old result (λ l. list_any (λ r. refer.is_of_buffer b r.holder) l) }
         ensures names { KeepsNames self.old.names self.new.names }
-        ensures uses { reference_room self.old ≤ reference_room self.new }
+        ensures settled { KeepsSettled self.old self.new }
+        ensures uses { Uses self.old self.new 0 0 0 }
     {
         let near = Near {
             object: 0,
@@ -247,7 +260,8 @@ impl Records {
     fn remove_each(&mut self, b: u64)
         ensures stands { Makes self.old self.new (λ l. filter (λ r. not (refer.is_of_buffer b r.holder)) l) }
         ensures names { KeepsNames self.old.names self.new.names }
-        ensures uses { reference_room self.old ≤ reference_room self.new }
+        ensures settled { KeepsSettled self.old self.new }
+        ensures uses { Uses self.old self.new 0 0 0 }
     {
         for _ in 0..self.held.len() {
             if !self.pop_held(b) {
@@ -260,7 +274,8 @@ impl Records {
     pub fn remove_buffer(&mut self, b: u64)
         ensures stands { Makes self.old self.new (λ l. filter (λ r. not (refer.is_of_buffer b r.holder)) l) }
         ensures names { KeepsNames self.old.names self.new.names }
-        ensures uses { reference_room self.old ≤ reference_room self.new }
+        ensures settled { KeepsSettled self.old self.new }
+        ensures uses { Uses self.old self.new 0 0 0 }
     {
         self.remove_each(b);
         self.held.close(b);

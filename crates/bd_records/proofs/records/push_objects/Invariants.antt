@@ -1,8 +1,9 @@
 use Rattle.std.proofs.Common.{◌≡◌, ◌++◌, map}
 use Rattle.bd_space.specs.declared.space.Reference.{Reference}
+use Rattle.bd_records.specs.declared.lying.Lying.{Lying}
 use Rattle.bd_records.proofs.records.push_objects.Given as goal
 
-abbrev pub invariant-loop-r : goal.invariant-loop-r
-invariant-loop-r l =
-    l.fn.touched.items ++ map (λ (r : Reference). r.object) l.fn.references
-    ≡ l.touched.items ++ map (λ r. r.object) l.r-iterator
+abbrev pub invariant-loop-v : goal.invariant-loop-v
+invariant-loop-v l =
+    l.fn.touched.items ++ map (λ (r : Reference). r.object) (map (λ (v : Lying). v.reference) l.fn.references)
+    ≡ l.touched.items ++ map (λ r. r.object) (map (λ (v : Lying). v.reference) l.v-iterator)

@@ -1,4 +1,4 @@
-use Rattle.std.proofs.Common.{◌≡◌, ℕ, ◌==◌, false, cond, ◌&&◌, Some, None, sym, refl, ap, ◌∙◌, arith}
+use Rattle.std.proofs.Common.{◌≡◌, ◌≤◌, ℕ, ◌==◌, Bool, true, false, cond, ◌&&◌, Some, None, sym, refl, ap, ◌∙◌, arith}
 use Rattle.std.specs.Prelude.{option_map}
 use Rattle.bd_ways.specs.Words.{Identity, same}
 use Rattle.bd_numbered.specs.Numbered.{value_at}
@@ -47,3 +47,10 @@ returns-clause-names c =
     ≡ cond ((p == q) && same c.args.o x) (Some (new_row c.args.o)) (on_slot None (value_at t.rows q) (number_at t.numbers q x))) p
     (λ x. grind (arith, own_process p, put_at object_of (value_at t.rows p) (value_at c.put-n.new.self p) (number_at t.numbers p) (number_at c.insert_number.new.numbers p) c.args.o n (t.found p) (t.leads p) (new_row c.args.o) refl (λ j. false) (λ j e. absurd cc) (λ j e. absurd (let h : None ≡ Some j = sym none ∙ e in cc)) fresh comes (λ x. grind (arith, c.insert_number.ensures.at p x, own_process p)) x))
     (λ q off x. ap (on_slot None (value_at c.put-n.new.self q)) (grind (arith, off, c.insert_number.ensures.at q x)) ∙ same_slots (value_at t.rows q) (value_at c.put-n.new.self q) (number_at t.numbers q x) (λ j. grind (arith, off, c.put-n.ensures.put q j)) ∙ grind (arith, off))
+
+pub invariant_of-self-clause-small : goal.invariant_of-self-clause-small
+invariant_of-self-clause-small c = λ q x m e. at q x m ((c.args.p == q) && same c.args.o x) (sym (c.insert_number.ensures.at q x) ∙ e)
+  where
+    at : (q : ℕ) (x : Identity) (m : ℕ) (b : Bool) → cond b (Some c.in-Some.n) (number_at c.args.self.now.numbers q x) ≡ Some m → m ≤ 4294967294
+    at q x m true e = (let h = c.in-Some.ensures.within in let k : c.in-Some.n ≡ m = cc in omega (arith, h, k))
+    at q x m false e = c.args.self.now.small q x m e

@@ -1,4 +1,4 @@
-use Rattle.std.proofs.Common.{◌≡◌, ℕ, ◌==◌, false, cond, ◌&&◌, Some, None, sym, refl, ◌∙◌, arith}
+use Rattle.std.proofs.Common.{◌≡◌, ◌≤◌, ℕ, ◌==◌, Bool, true, false, cond, ◌&&◌, Some, None, sym, refl, ◌∙◌, arith}
 use Rattle.std.specs.Prelude.{option_map}
 use Rattle.bd_ways.specs.Words.{Identity, same}
 use Rattle.bd_numbered.specs.Numbered.{value_at}
@@ -44,3 +44,10 @@ returns-in-Some-clause-names c =
         → on_slot None (value_at c.remove-row.new.self q) (number_at c.remove_number.new.numbers q x) ≡ cond ((c.args.p == q) && same c.args.o x) None (on_slot None (value_at c.args.self.now.rows q) s)
     at q off x None e = grind (arith, off, e, c.remove_number.ensures.at q x)
     at q off x (Some j) e = grind (arith, off, e, c.remove_number.ensures.at q x, c.remove-row.ensures.at q j)
+
+pub invariant_of-self-clause-small : goal.invariant_of-self-clause-small
+invariant_of-self-clause-small c = λ q x m e. at q x m ((c.args.p == q) && same c.args.o x) (sym (c.remove_number.ensures.at q x) ∙ e)
+  where
+    at : (q : ℕ) (x : Identity) (m : ℕ) (b : Bool) → cond b None (number_at c.args.self.now.numbers q x) ≡ Some m → m ≤ 4294967294
+    at q x m true e = absurd cc
+    at q x m false e = c.args.self.now.small q x m e

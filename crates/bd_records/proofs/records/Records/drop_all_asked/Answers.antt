@@ -1,9 +1,9 @@
-use Rattle.std.proofs.Common.{◌≡◌, false, true, cond, None, Bool, ap, sym, subst, ◌∙◌, arith, count_by}
+use Rattle.std.proofs.Common.{refl, ◌≡◌, false, true, cond, None, Bool, ap, sym, subst, ◌∙◌, arith, count_by}
 use Rattle.std.specs.Prelude.{option_map}
 use Rattle.bd_ways.specs.Words.{Identity, same}
 use Rattle.bd_space.specs.References.{is_asking}
 use Rattle.bd_records.specs.{Count.{of_strength}, Counting.{asked_of, lowered}, Objects.{row_at}, Names.{name_at}, Buffers.{is_held}, Records.{RecordsAre}}
-use Rattle.bd_records.proofs.{Buffering.{kept_buffers}, Named.{names_kept}}
+use Rattle.bd_records.proofs.{Buffering.{same_buffers}, Named.{names_kept}, Given.{settled_kept}}
 use Rattle.bd_records.proofs.Disowning.{kept_in_rest, rest_shorter}
 use Rattle.bd_records.proofs.Forgetting.{asked_to, unasked_by, held_not_asked, lowered_objects, lowered_owners, forgotten_counts, nothing_asked}
 use Rattle.bd_records.proofs.records.Records.drop_all_asked.Goals as goal
@@ -20,7 +20,7 @@ returns-in-Some-clause-stands c = λ objects l h.
       owners = λ q y. h.owners q y ∙ sym (lowered_owners p o (row_at t.objects) (row_at c.subtract.new.self) (name_at t.names) (name_at c.clear_asked.new.self) objects l h.counts rows c.clear_asked.ensures.cleared q y);
       own = h.own;
       counts = forgotten_counts p o (row_at t.objects) (row_at c.subtract.new.self) (name_at t.names) (name_at c.clear_asked.new.self) objects l h.counts rows c.clear_asked.ensures.cleared;
-      held = kept_buffers t.held t.held l (unasked_by p o l) h.held (λ rs s. s) (kept_in_rest is_held (asked_to p o) (held_not_asked p o) l);
+      held = same_buffers t.held l (unasked_by p o l) h.held (kept_in_rest is_held (asked_to p o) (held_not_asked p o) l);
       few = (let n = rest_shorter is_held (asked_to p o) l in let a = h.few in omega (arith, n, a));
     }
 
@@ -33,3 +33,6 @@ returns-in_default-clause-stands c = λ objects l h.
     let none : (s : Bool) → count_by (is_asking c.args.p c.args.o s) l ≡ of_strength s (asked_of None) =
     (λ s. sym (h.counts.asked c.args.p c.args.o s) ∙ ap (λ w. of_strength s (asked_of w)) (sym c.row_near.ensures.is ∙ c.in_default.is)) in
     subst (RecordsAre t objects) (sym (nothing_asked c.args.p c.args.o l (none false) (none true))) h
+
+pub returns-in-Some-clause-settled : goal.returns-in-Some-clause-settled
+returns-in-Some-clause-settled c = settled_kept c.args.self.now _ (names_kept c.args.self.now.names c.clear_asked.new.self c.clear_asked.ensures.named c.clear_asked.ensures.numbers) refl

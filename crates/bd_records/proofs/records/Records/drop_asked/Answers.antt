@@ -1,13 +1,14 @@
-use Rattle.std.proofs.Common.{◌≡◌, true, false, sym, ◌∙◌, subst, arith}
+use Rattle.std.proofs.Common.{refl, ◌≡◌, true, false, sym, ◌∙◌, subst, arith}
 use Rattle.std.specs.List.{list_any}
 use Rattle.bd_ways.specs.Words.{Reference, Asked, without_first}
 use Rattle.bd_space.specs.References.{is_asking}
 use Rattle.bd_records.specs.{Objects.{row_at}, Names.{name_at}, Buffers.{is_held}, Records.{RecordsAre}}
 use Rattle.bd_records.proofs.Tallies.{counts_less}
 use Rattle.bd_records.proofs.Lists.{first_shorter, none_first, kept_first}
-use Rattle.bd_records.proofs.Buffering.{kept_buffers}
+use Rattle.bd_records.proofs.Buffering.{same_buffers}
 use Rattle.bd_records.proofs.Holding.{objects_same, owners_same, goes, asking_alike, asked_off}
 use Rattle.bd_records.proofs.Named.{names_kept}
+use Rattle.bd_records.proofs.Given.{settled_kept}
 use Rattle.bd_records.proofs.records.Records.drop_asked.Goals as goal
 
 pub returns-then-is_asked-clause-stands : goal.returns-then-is_asked-clause-stands
@@ -23,7 +24,7 @@ returns-then-is_asked-clause-stands c = λ objects l h.
       own = h.own;
       counts = counts_less (row_at t.objects) (row_at c.turn.new.objects) (name_at t.names) (name_at c.turn.new.names) objects l m r h.counts
           (goes test r (asking_alike c.args.p c.args.o c.args.strong) l any) c.turn.ensures.objects c.turn.ensures.names;
-      held = kept_buffers t.held t.held l m h.held (λ rs s. s) (kept_first test is_held (asked_off c.args.p c.args.o c.args.strong) l);
+      held = same_buffers t.held l m h.held (kept_first test is_held (asked_off c.args.p c.args.o c.args.strong) l);
       few = (let n = first_shorter test l in let a = h.few in omega (arith, n, a));
     }
 
@@ -34,3 +35,6 @@ returns-else-is_asked-clause-stands c = λ objects l h.
 
 pub returns-then-is_asked-clause-names : goal.returns-then-is_asked-clause-names
 returns-then-is_asked-clause-names c = names_kept c.args.self.now.names c.turn.new.names c.turn.ensures.named c.turn.ensures.numbers
+
+pub returns-then-is_asked-clause-settled : goal.returns-then-is_asked-clause-settled
+returns-then-is_asked-clause-settled c = settled_kept c.args.self.now _ (names_kept c.args.self.now.names c.turn.new.names c.turn.ensures.named c.turn.ensures.numbers) refl

@@ -1,4 +1,4 @@
-use Rattle.std.proofs.Common.{◌≡◌, false, find, Some, is_some, sym, ap, ◌∙◌, subst, arith}
+use Rattle.std.proofs.Common.{refl, ◌≡◌, false, find, Some, is_some, sym, ap, ◌∙◌, subst, arith}
 use Rattle.std.specs.List.{list_any}
 use Rattle.bd_ways.specs.Words.{Reference, without_first}
 use Rattle.bd_space.specs.References.{is_of_buffer}
@@ -7,6 +7,7 @@ use Rattle.bd_records.proofs.Tallies.{counts_less, count_first, on}
 use Rattle.bd_records.proofs.Lists.{first_shorter, none_first, found_some}
 use Rattle.bd_records.proofs.Holding.{objects_same, owners_same}
 use Rattle.bd_records.proofs.Named.{names_kept}
+use Rattle.bd_records.proofs.Given.{settled_kept}
 use Rattle.bd_records.proofs.records.Records.pop_held.Goals as goal
 
 pub returns-in-Some-clause-stands : goal.returns-in-Some-clause-stands
@@ -53,3 +54,6 @@ returns-in-None-clause-stands c = λ objects l h.
 
 pub returns-in-Some-clause-names : goal.returns-in-Some-clause-names
 returns-in-Some-clause-names c = names_kept c.args.self.now.names c.turn.new.names c.turn.ensures.named c.turn.ensures.numbers
+
+pub returns-in-Some-clause-settled : goal.returns-in-Some-clause-settled
+returns-in-Some-clause-settled c = settled_kept c.args.self.now _ (names_kept c.args.self.now.names c.turn.new.names c.turn.ensures.named c.turn.ensures.numbers) refl

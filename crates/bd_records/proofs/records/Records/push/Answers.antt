@@ -1,10 +1,12 @@
-use Rattle.std.proofs.Common.{◌<◌, true, [], ◌∷◌, ◌++◌, length, sym, ◌∙◌, arith}
+use Rattle.std.proofs.Common.{refl, ◌<◌, true, [], ◌∷◌, ◌++◌, ◌-◌, length, sym, ◌∙◌, arith}
+use Rattle.std.specs.Prelude.{vec_len, vec_capacity}
 use Rattle.bd_space.proofs.Identities.{same_eq}
-use Rattle.bd_records.specs.{Objects.{row_at}, Names.{name_at}}
+use Rattle.bd_records.specs.{Objects.{row_at, object_room}, Names.{name_at, name_room}, Owned.{own_room}, Buffers.{buffer_room}}
 use Rattle.bd_records.proofs.Tallies.{counts_more, count_push, on}
 use Rattle.bd_records.proofs.Lists.{length_more}
 use Rattle.bd_records.proofs.Holding.{objects_same, owners_same}
 use Rattle.bd_records.proofs.Named.{names_kept}
+use Rattle.bd_records.proofs.Given.{settled_kept, less_stays, one_fewer}
 use Rattle.bd_records.proofs.records.Records.push.Goals as goal
 
 pub returns-clause-stands : goal.returns-clause-stands
@@ -23,3 +25,15 @@ returns-clause-stands c = λ objects l homed h.
 
 pub returns-clause-names : goal.returns-clause-names
 returns-clause-names c = names_kept c.args.self.now.names c.turn.new.names c.turn.ensures.named c.turn.ensures.numbers
+
+pub returns-clause-settled : goal.returns-clause-settled
+returns-clause-settled c = settled_kept c.args.self.now _ (names_kept c.args.self.now.names c.turn.new.names c.turn.ensures.named c.turn.ensures.numbers) refl
+
+pub returns-clause-uses : goal.returns-clause-uses
+returns-clause-uses c =
+    let t = c.args.self.now in
+    record {
+      objects_fit = less_stays (object_room t.objects) (object_room c.turn.new.objects) (own_room t.owned) c.turn.ensures.objects_room;
+      references_fit = one_fewer 18446744073709551615 (buffer_room t.held) (buffer_room c.push.new.self) t.made c.saturating_add-self.result c.push.ensures.uses (let s = c.saturating_add-self.ensures in omega (arith, s));
+      names_fit = λ q. less_stays (name_room t.names q) (name_room c.turn.new.names q) (vec_capacity t.given - vec_len t.given) (c.turn.ensures.names_room q);
+    }

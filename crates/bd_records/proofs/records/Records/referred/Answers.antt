@@ -7,4 +7,4 @@ pub returns : goal.returns
 returns c =
     on_ok_weaker c.push_objects.result
     (λ e objects l h. e ∙ ap (λ (xs : List Reference). c.args.touched.now.items ++ map (λ r. r.object) xs) (c.of.ensures l h.held))
-    c.push_objects.ensures
+    c.push_objects.ensures.pushed

@@ -4,13 +4,14 @@ use Rattle.bd_ways.specs.Words.{Reference}
 use Rattle.bd_space.specs.References.{is_of_buffer}
 use Rattle.bd_records.specs.{Buffers.{is_held}, Records.{RecordsAre}}
 use Rattle.bd_records.proofs.Lists.{none_first, found_is, rest_same, nothing_goes, first_less, any_empty, any_kept, first_kept, find_kept}
-use Rattle.bd_records.proofs.Buffering.{of_held}
+use Rattle.bd_records.proofs.{Buffering.{of_held}, Given.{uses_nothing}}
 use Rattle.bd_records.proofs.records.Records.remove_each.Goals as goal
 
 pub loop-preserved : goal.loop-preserved
 loop-preserved c = record {
-  uses = (let a = c.loop.invariant.uses in let b = c.pop_held.ensures.uses in omega (arith, a, b));
+  uses = uses_nothing _ _ _ c.loop.invariant.uses c.pop_held.ensures.uses;
   names = λ l h. c.pop_held.ensures.names l (c.loop.invariant.names l h);
+  settled = λ names s. c.pop_held.ensures.settled names (c.loop.invariant.settled names s);
   left = λ objects l h.
       let m = c.loop.invariant.left objects l h in
       let b = c.args.b in

@@ -1,13 +1,14 @@
 use Rattle.std.proofs.Common.{◌≡◌, ◌≤◌, ◌+◌, not, List, length, filter}
 use Rattle.bd_ways.specs.Words.{Object, Reference}
 use Rattle.bd_space.specs.References.{is_of_buffer}
-use Rattle.bd_records.specs.{Buffers.{is_held}, Records.{RecordsAre, reference_room}, NamesAre.{KeepsNames}}
+use Rattle.bd_records.specs.{Buffers.{is_held}, Records.{RecordsAre}, NamesAre.{KeepsNames}, Since.{KeepsSettled}, Room.{Uses}}
 use Rattle.bd_records.proofs.records.Records.remove_each.Given as goal
 
 abbrev pub invariant-loop : goal.invariant-loop
 invariant-loop l = record {
-  uses : reference_room l.fn.self ≤ reference_room l.self;
+  uses : Uses l.fn.self l.self 0 0 0;
   names : KeepsNames l.fn.self.names l.self.names;
+  settled : KeepsSettled l.fn.self l.self;
   left : (objects : List Object) (l0 : List Reference) → RecordsAre l.fn.self objects l0
       → (mid : List Reference) × RecordsAre l.self objects mid
       × (filter (λ r. not (is_of_buffer l.fn.b r.holder)) mid ≡ filter (λ r. not (is_of_buffer l.fn.b r.holder)) l0)

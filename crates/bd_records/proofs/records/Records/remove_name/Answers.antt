@@ -1,5 +1,6 @@
+use Rattle.std.proofs.Common.{refl}
 use Rattle.bd_records.specs.{Names.{name_at}, Objects.{row_at}}
-use Rattle.bd_records.proofs.Asked.{counts_unnamed, unnamed_counts}
+use Rattle.bd_records.proofs.{Asked.{counts_unnamed, unnamed_counts}, Given.{settled_now}}
 use Rattle.bd_records.proofs.records.Records.remove_name.Goals as goal
 
 pub returns-clause-stands : goal.returns-clause-stands
@@ -12,3 +13,6 @@ returns-clause-stands c = λ objects l none h. record {
   held = h.held;
   few = h.few;
 }
+
+pub returns-clause-settled : goal.returns-clause-settled
+returns-clause-settled c = λ names s. settled_now c.args.self.now _ names _ s (c.remove_name.ensures.stands names s.stands) refl

@@ -1,6 +1,6 @@
 use Rattle.std.proofs.Common.{sym, ◌∙◌, arith}
 use Rattle.bd_records.specs.{Objects.{row_at}, Names.{name_at}, Buffers.{is_held}}
-use Rattle.bd_records.proofs.Buffering.{kept_buffers}
+use Rattle.bd_records.proofs.Buffering.{same_buffers}
 use Rattle.bd_records.proofs.Disowning.{own_to, others, disowned_objects, disowned_owners, disowned_counts, kept_in_rest, rest_shorter, held_not_own}
 use Rattle.bd_records.proofs.records.Records.remove_of_owner.Goals as goal
 
@@ -13,6 +13,6 @@ returns-clause-stands c = λ objects l h.
       owners = λ p y. h.owners p y ∙ sym (disowned_owners o (row_at t.objects) (row_at c.remove_of_owner.new.self) (name_at t.names) objects l h.counts c.remove_of_owner.ensures.disowned p y);
       own = h.own;
       counts = disowned_counts o (row_at t.objects) (row_at c.remove_of_owner.new.self) (name_at t.names) objects l h.counts c.remove_of_owner.ensures.disowned;
-      held = kept_buffers t.held t.held l (others o l) h.held (λ rs s. s) (kept_in_rest is_held (own_to o) (held_not_own o) l);
+      held = same_buffers t.held l (others o l) h.held (kept_in_rest is_held (own_to o) (held_not_own o) l);
       few = (let n = rest_shorter is_held (own_to o) l in let a = h.few in omega (arith, n, a));
     }

@@ -8,7 +8,7 @@ pub loop-m-init : goal.loop-m-init
 loop-m-init c = record {
   kept = λ base names h objects l r. r;
   since = λ base names h. subst (Since c.args.self.now base) h.grows h;
-  room = λ q. omega arith;
+  uses = record { objects_fit = omega arith; references_fit = omega arith; names_fit = λ q. omega arith };
 }
 
 pub loop-m-preserved : goal.loop-m-preserved
@@ -39,7 +39,11 @@ loop-m-preserved c = record {
         grows = refl;
         blank = all_gone t.names c.remove_name.new.names m.process m.object c.remove_name.ensures.rows c.pop.new.self.items b.0;
       };
-  room = λ q. omega (arith, c.loop-m.invariant.room q, c.remove_name.ensures.uses q, c.in-Some.ensures.len, c.in-Some.ensures.capacity);
+  uses = record {
+    objects_fit = omega (arith, c.loop-m.invariant.uses.objects_fit);
+    references_fit = omega (arith, c.loop-m.invariant.uses.references_fit);
+    names_fit = λ q. omega (arith, c.loop-m.invariant.uses.names_fit q, c.remove_name.ensures.uses q, c.in-Some.ensures.len, c.in-Some.ensures.capacity);
+  };
 }
 
 pub returns-clause-stands : goal.returns-clause-stands

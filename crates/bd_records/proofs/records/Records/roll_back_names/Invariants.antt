@@ -1,13 +1,13 @@
-use Rattle.std.proofs.Common.{◌≤◌, ℕ, List, ◌++◌, length}
+use Rattle.std.proofs.Common.{List, ◌++◌, length}
 use Rattle.bd_ways.specs.Words.{Name, Object, Reference}
-use Rattle.bd_records.specs.{Records.{RecordsAre}, Since.{Since, given_room}}
+use Rattle.bd_records.specs.{Records.{RecordsAre}, Since.{Since}, Room.{Uses}}
 use Rattle.bd_records.proofs.records.Records.roll_back_names.Given as goal
 
 abbrev pub invariant-loop-m : goal.invariant-loop-m
 invariant-loop-m l = record {
   kept : (base names : List Name) → Since l.fn.self base names → (objects : List Object) (references : List Reference) → RecordsAre l.fn.self objects references → RecordsAre l.self objects references;
   since : (base names : List Name) → Since l.fn.self base names → Since l.self base (base ++ l.self.given.items);
-  room : (q : ℕ) → given_room l.fn.self q ≤ given_room l.self q;
+  uses : Uses l.fn.self l.self 0 0 0;
 }
 
 abbrev pub decreases-loop-m : goal.decreases-loop-m

@@ -1,0 +1,81 @@
+-- What a process asked for goes, name by name.
+use Rattle.std.proofs.Common.{◌≡◌, ℕ, ◌<◌, nat_lt, ◌^◌, Bool, true, false, not, ◌&&◌, ◌||◌, cond, List, [], ◌∷◌, filter, Option, Some, None, refl, sym, ap, ◌∙◌, subst, arith, count_by}
+use Rattle.std.specs.{List.{list_any}}
+use Rattle.bd_ways.specs.Words.{Identity, Object, Reference}
+use Rattle.bd_space.specs.References.{is_asked_by, is_asking}
+use Rattle.bd_space.proofs.Identities.{same_self}
+use Rattle.bd_numbered.specs.Numbered.{value_at}
+use Rattle.bd_records.specs.declared.{records.Records.{Records}}
+use Rattle.bd_records.specs.{Count.{of_strength, no_count}, Counting.{asked_of}, Names.{named_by, number_of}, Slots.{on_slot}, Records.{RecordsAre}, Ending.{is_named_at}}
+use Rattle.bd_records.proofs.{Forgetting.{asked_to}, Holding.{asked_counts}, Lists.{filter_within}}
+
+abbrev pub asked_by : ℕ → Reference → Bool
+asked_by p r = is_asked_by p r.holder
+
+-- those of others
+abbrev pub others_than : ℕ → List Reference → List Reference
+others_than p l = filter (λ r. not (is_asked_by p r.holder)) l
+
+-- without what was asked for by a name
+abbrev pub unnamed : ℕ → Option Identity → List Reference → List Reference
+unnamed p w l = filter (λ r. not (is_named_at w r.object && is_asked_by p r.holder)) l
+
+pub kept_unnamed : (p : ℕ) (l : List Reference) → filter (λ (r : Reference). not (is_named_at None r.object && is_asked_by p r.holder)) l ≡ l
+kept_unnamed p [] = refl
+kept_unnamed p (x ∷ l) = ap (λ ys. x ∷ ys) (kept_unnamed p l)
+
+not_both : (a b : Bool) → not b ≡ true → not (a && b) ≡ true
+not_both true b e = e
+not_both false b e = refl
+
+-- others' stay
+pub others_stay : (p : ℕ) (w : Option Identity) (l : List Reference) → others_than p (unnamed p w l) ≡ others_than p l
+others_stay p w l = filter_within (λ r. not (is_asked_by p r.holder)) (λ r. not (is_named_at w r.object && is_asked_by p r.holder)) (λ r e. not_both (is_named_at w r.object) (is_asked_by p r.holder) e) l
+
+none_kept : (f q : Reference → Bool) (l : List Reference) → list_any f l ≡ false → list_any f (filter q l) ≡ false
+none_kept f q [] e = refl
+none_kept f q (x ∷ l) e = at (q x) (f x) refl (none_kept f q l)
+  where
+    at : (b c : Bool) → f x ≡ c → (list_any f l ≡ false → list_any f (filter q l) ≡ false) → list_any f (cond b (x ∷ filter q l) (filter q l)) ≡ false
+    at b true g more = absurd (grind (arith, e, g))
+    at true false g more = grind (arith, e, g, more)
+    at false false g more = more (grind (arith, e, g))
+
+none_passes : (f : Reference → Bool) (l : List Reference) → list_any f (filter (λ x. not (f x)) l) ≡ false
+none_passes f [] = refl
+none_passes f (x ∷ l) = at (f x) refl (none_passes f l)
+  where
+    at : (b : Bool) → f x ≡ b → list_any f (filter (λ x. not (f x)) l) ≡ false → list_any f (cond (not b) (x ∷ filter (λ x. not (f x)) l) (filter (λ x. not (f x)) l)) ≡ false
+    at true e more = more
+    at false e more = grind (arith, e, more)
+
+-- what isn't asked for any more stays so
+pub still_unasked : (p : ℕ) (o : Identity) (w : Option Identity) (l : List Reference) → list_any (asked_to p o) l ≡ false → list_any (asked_to p o) (unnamed p w l) ≡ false
+still_unasked p o w l e = none_kept (asked_to p o) (λ r. not (is_named_at w r.object && is_asked_by p r.holder)) l e
+
+pub now_unasked : (p : ℕ) (o : Identity) (w : Option Identity) (l : List Reference) → w ≡ Some o → list_any (asked_to p o) (unnamed p w l) ≡ false
+now_unasked p o w l e = subst (λ v. list_any (asked_to p o) (unnamed p v l) ≡ false) (sym e) (none_passes (asked_to p o) l)
+
+-- of no object: of none
+pub all_unasked : (p : ℕ) (l : List Reference) → ((o : Identity) → list_any (asked_to p o) l ≡ false) → list_any (asked_by p) l ≡ false
+all_unasked p [] none = refl
+all_unasked p (x ∷ l) none = at (is_asked_by p x.holder) refl (all_unasked p l (λ o. grind (arith, none o)))
+  where
+    at : (b : Bool) → is_asked_by p x.holder ≡ b → list_any (asked_by p) l ≡ false → (b || list_any (asked_by p) l) ≡ false
+    at true e more = absurd (let k = none x.object in let s = same_self x.object in grind (arith, e, k, s))
+    at false e more = more
+
+none_counted : (s : Bool) → of_strength s no_count ≡ 0
+none_counted true = refl
+none_counted false = refl
+
+-- nothing is asked for that has no name, and nothing by a name by which nothing is
+pub nothing_asked_for : (t : Records) (objects : List Object) (l : List Reference) (p : ℕ) → RecordsAre t objects l
+    → ((m : ℕ) → m < 2 ^ 32 → (o : Identity) → named_by t.names p m ≡ Some o → list_any (asked_to p o) l ≡ false) → (o : Identity) → list_any (asked_to p o) l ≡ false
+nothing_asked_for t objects l p h none o = at (number_of t.names p o) refl
+  where
+    at : (k : Option ℕ) → number_of t.names p o ≡ k → list_any (asked_to p o) l ≡ false
+    at None e =
+        let zero : (s : Bool) → count_by (is_asking p o s) l ≡ 0 = (λ s. sym (h.counts.asked p o s) ∙ ap (λ k. of_strength s (asked_of (on_slot None (value_at t.names.rows p) k))) e ∙ none_counted s) in
+        asked_counts p o l ∙ (λ i. nat_lt 0 (zero false i) || nat_lt 0 (zero true i))
+    at (Some n) e = none n (let s = t.names.small p o n e in omega (arith, s)) o (t.names.leads p o n e)

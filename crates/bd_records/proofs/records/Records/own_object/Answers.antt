@@ -1,0 +1,15 @@
+use Rattle.std.proofs.Common.{◌==◌, ◌∙◌, ap, sym}
+use Rattle.std.specs.Prelude.{option_map}
+use Rattle.bd_space.specs.declared.space.Object.{Object}
+use Rattle.bd_space.specs.Words.{same}
+use Rattle.bd_nodes.specs.Keys.{id_key, kept}
+use Rattle.bd_space.proofs.Identities.{same_eq, same_self}
+use Rattle.bd_nodes.proofs.Found.{found_and}
+use Rattle.bd_records.proofs.Coming.{object_of}
+use Rattle.bd_records.proofs.records.Records.own_object.Goals as goal
+
+pub returns : goal.returns
+returns c = λ objects l h.
+    let is_owned = λ (x : Object). x.owner == c.args.p in
+    c.own_of.ensures ∙ ap (λ w. kept is_owned (option_map object_of w)) c.row_near.ensures.is ∙ ap (kept is_owned) (sym (h.objects_are c.args.o))
+    ∙ sym (found_and id_key same same_eq same_self is_owned c.args.o objects h.own.ids)

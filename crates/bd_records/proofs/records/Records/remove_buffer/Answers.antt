@@ -1,0 +1,15 @@
+use Rattle.std.proofs.Common.{refl, arith}
+use Rattle.bd_records.proofs.Given.{settled_kept}
+use Rattle.bd_records.proofs.records.Records.remove_buffer.Goals as goal
+
+pub returns-clause-settled : goal.returns-clause-settled
+returns-clause-settled c = λ names s. settled_kept c.remove_each.new.self _ (λ l h. h) refl names (c.remove_each.ensures.settled names s)
+
+pub returns-clause-uses : goal.returns-clause-uses
+returns-clause-uses c =
+    let a = c.remove_each.ensures.uses in
+    record {
+      objects_fit = a.objects_fit;
+      references_fit = omega (arith, a.references_fit, c.close.ensures.uses);
+      names_fit = a.names_fit;
+    }

@@ -1,0 +1,41 @@
+use Rattle.std.proofs.Common.{◌≡◌, true, false, length, filter, sym, ap, ◌∙◌, subst, arith}
+use Rattle.std.specs.List.{list_any}
+use Rattle.bd_ways.specs.Words.{Reference}
+use Rattle.bd_space.specs.References.{is_in_window}
+use Rattle.bd_records.specs.{Buffers.{is_held}, Records.{RecordsAre}}
+use Rattle.bd_records.proofs.Lists.{none_first, found_is, rest_same, nothing_goes, first_less, any_empty, any_kept, first_kept, find_kept}
+use Rattle.bd_records.proofs.{Buffering.{in_held}, Given.{uses_nothing}}
+use Rattle.bd_records.proofs.records.Records.remove_each_in_window.Goals as goal
+
+pub loop-preserved : goal.loop-preserved
+loop-preserved c = record {
+  uses = uses_nothing _ _ _ c.loop.invariant.uses c.pop_in_window.ensures.uses;
+  names = λ l h. c.pop_in_window.ensures.names l (c.loop.invariant.names l h);
+  settled = λ names s. c.pop_in_window.ensures.settled names (c.loop.invariant.settled names s);
+  left = λ objects l h.
+      let m = c.loop.invariant.left objects l h in
+      let b = c.args.p in
+      let test = (λ (x : Reference). is_in_window b x.holder) in
+      let any : list_any test m.0 ≡ true = sym (c.pop_in_window.ensures.any objects m.0 m.1) ∙ c.if-not-pop_in_window.false in
+      let f = found_is test m.0 any in
+      let less = ap length (first_kept test is_held (in_held b) m.0) in
+      let one = first_less test (filter is_held m.0) f.0 (find_kept test is_held (in_held b) m.0 ∙ f.1) in
+      let few = m.3 in
+      (_, c.pop_in_window.ensures.stands objects m.0 m.1, rest_same test m.0 ∙ m.2, omega (arith, less, one, few));
+}
+
+pub returns-then-not-pop_in_window-clause-stands : goal.returns-then-not-pop_in_window-clause-stands
+returns-then-not-pop_in_window-clause-stands c = λ objects l h.
+    let m = c.loop.invariant.left objects l h in
+    let test = (λ (x : Reference). is_in_window c.args.p x.holder) in
+    let none : list_any test m.0 ≡ false = sym (c.pop_in_window.ensures.any objects m.0 m.1) ∙ c.if-not-pop_in_window.true in
+    subst (RecordsAre c.pop_in_window.new.self objects) (none_first test m.0 none ∙ sym (nothing_goes test m.0 none) ∙ m.2) (c.pop_in_window.ensures.stands objects m.0 m.1)
+
+pub returns-clause-stands : goal.returns-clause-stands
+returns-clause-stands c = λ objects l h.
+    let m = c.loop.invariant.left objects l h in
+    let test = (λ (x : Reference). is_in_window c.args.p x.holder) in
+    let all = c.len-end.ensures l h.held in
+    let few = m.3 in
+    let none : list_any test m.0 ≡ false = sym (any_kept test is_held (in_held c.args.p) m.0) ∙ any_empty test (filter is_held m.0) (omega (arith, few, all)) in
+    subst (RecordsAre c.loop.self objects) (sym (nothing_goes test m.0 none) ∙ m.2) m.1

@@ -1,0 +1,16 @@
+use Rattle.std.proofs.Common.{◌≡◌, ◌≤◌, ◌+◌, not, List, length, filter}
+use Rattle.bd_ways.specs.Words.{Object, Reference}
+use Rattle.bd_space.specs.References.{is_in_window}
+use Rattle.bd_records.specs.{Buffers.{is_held}, Records.{RecordsAre}, NamesAre.{KeepsNames}, Since.{KeepsSettled}, Room.{Uses}}
+use Rattle.bd_records.proofs.records.Records.remove_each_in_window.Given as goal
+
+abbrev pub invariant-loop : goal.invariant-loop
+invariant-loop l = record {
+  uses : Uses l.fn.self l.self 0 0 0;
+  names : KeepsNames l.fn.self.names l.self.names;
+  settled : KeepsSettled l.fn.self l.self;
+  left : (objects : List Object) (l0 : List Reference) → RecordsAre l.fn.self objects l0
+      → (mid : List Reference) × RecordsAre l.self objects mid
+      × (filter (λ r. not (is_in_window l.fn.p r.holder)) mid ≡ filter (λ r. not (is_in_window l.fn.p r.holder)) l0)
+      × (length (filter is_held mid) + l.counter ≤ length (filter is_held l0));
+}

@@ -1,0 +1,71 @@
+//! Looking at objects.
+
+ghost use Rattle.std.specs.Prelude.{◌≡◌, ◌==◌, ◌&&◌, option_map, find, map, filter, List};
+ghost use Rattle.bd_space.specs.Words.{same};
+ghost use Rattle.bd_space.specs.References as refer;
+ghost use Rattle.bd_space.specs.declared.space.{Object.{Object}, Reference.{Reference}};
+ghost use Rattle.bd_nodes.specs.Keys as keys;
+
+use crate::listing::OwnedObjects;
+use crate::records::Records;
+use crate::row::ObjectRow;
+use bd_space as space;
+use bd_space::Identity;
+
+// The object of this record, if the process owns it.
+#[inline(always)]
+fn own_of(row: Option<ObjectRow>, p: u64) -> Option<space::Object>
+    ensures { result ≡ keys.kept (λ x. x.owner == p) (option_map (λ w. w.object) row) }
+{
+    match row {
+        Some(w) if w.object.owner == p => Some(w.object),
+        _ => None,
+    }
+}
+
+// What was found, if it has this cookie.
+fn with_cookie(found: Option<space::Object>, cookie: u64) -> Option<space::Object>
+    ensures { result ≡ keys.kept (λ x. x.cookie == cookie) found }
+{
+    found.filter(|x| x.cookie == cookie)
+}
+
+impl Records {
+    ghost use Rattle.bd_records.specs.Records.{RecordsAre};
+
+    /// The object with this identity, if it is still there.
+    #[inline(always)]
+    pub fn object(&self, o: Identity, near: usize) -> Option<space::Object>
+        ensures { (objects : List Object) (l : List Reference) → RecordsAre self.now objects l → result ≡ refer.object_in objects o }
+    {
+        match self.objects.row_near(o, near) {
+            Some(w) => Some(w.object),
+            None => None,
+        }
+    }
+
+    /// The object of this identity, if the process owns it.
+    #[inline(always)]
+    pub fn own_object(&self, p: u64, o: Identity, near: usize) -> Option<space::Object>
+        ensures { (objects : List Object) (l : List Reference) → RecordsAre self.now objects l
+            → result ≡ find (λ x. same x.id o && (x.owner == p)) objects }
+    {
+        own_of(self.objects.row_near(o, near), p)
+    }
+
+    /// As `own_with_ptr`, where the object has this cookie, too.
+    pub fn own_with(&self, p: u64, ptr: u64, cookie: u64) -> Option<space::Object>
+        ensures { (objects : List Object) (l : List Reference) → RecordsAre self.now objects l
+            → result ≡ find (λ x. (x.owner == p) && (x.ptr == ptr) && (x.cookie == cookie)) objects }
+    {
+        with_cookie(self.own_with_ptr(p, ptr), cookie)
+    }
+
+    /// The objects that the process owns, in the order in which they came.
+    pub fn listed(&self, p: u64) -> OwnedObjects<'_>
+        ensures { (objects : List Object) (l : List Reference) → RecordsAre self.now objects l
+            → result ≡ map (λ x. x.id) (filter (λ x. x.owner == p) objects) }
+    {
+        self.owned.listed(p)
+    }
+}
