@@ -1,12 +1,12 @@
 // SPDX-License-Identifier: Apache-2.0 OR MIT
 //! The words of the command line.
+use crate::following::ObjectId;
 #[cfg(feature = "top")]
 use crate::live::top::Top;
 use crate::live::trace::Trace;
 use crate::out::When;
 use crate::play::{Range, Spot};
 use crate::select::Selection;
-use crate::space::ObjectId;
 use crate::times::TimeWord;
 use crate::told::Wanted;
 use clap::{Args, Parser, Subcommand, ValueEnum};
@@ -131,6 +131,28 @@ pub enum Word {
     },
 }
 
+impl Word {
+    /// The journal that it looks at, which may be a recording whose order is shown in its place.
+    pub fn journal_mut(&mut self) -> Option<&mut String> {
+        match self {
+            Word::Show(it) => Some(&mut it.journal),
+            Word::Explain(it) => Some(&mut it.what),
+            Word::State(it) => it.journal.as_mut(),
+            Word::Holders(it) => Some(&mut it.journal),
+            Word::Leaks(it) => Some(&mut it.journal),
+            Word::Calls(it) => Some(&mut it.journal),
+            Word::Stats(it) => Some(&mut it.journal),
+            Word::Slow(it) => Some(&mut it.journal),
+            Word::Export(it) => Some(&mut it.journal),
+            Word::Diagram(it) => Some(&mut it.journal),
+            Word::Index { journal } => Some(journal),
+            _ => None,
+        }
+    }
+}
+
+/// How many steps `judge` tries.
+pub const TRIES: u64 = 1_500_000;
 /// How often a line that waits looks before it is given up.
 const TURNS: u32 = 1000;
 
@@ -162,8 +184,11 @@ pub struct Judge {
     #[arg(long, value_name = "NAMES")]
     pub ways: Option<String>,
     /// How many steps to try before it gives up
-    #[arg(long, value_name = "N", default_value_t = 1_500_000)]
+    #[arg(long, value_name = "N", default_value_t = TRIES)]
     pub tries: u64,
+    /// .. and after how many seconds of a processor, with as many more for each 10,000 steps [default: 5]
+    #[arg(long, value_name = "S")]
+    pub seconds: Option<f64>,
     /// If it finds no order: of how many threads to tell what they would have to do next
     #[arg(long, value_name = "N", default_value_t = 8)]
     pub most: usize,

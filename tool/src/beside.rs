@@ -1,10 +1,12 @@
 // SPDX-License-Identifier: Apache-2.0 OR MIT
 //! What lies beside a journal, and isn't in it: when each step was made, and by which thread.
-use crate::space::{About, Facts};
+use crate::following::{About, Facts};
+use crate::rules::Ways;
 use crate::times::{self, Moment, Times};
 use crate::who::{self, Person, Who};
-use anyhow::{bail, Result};
+use anyhow::{bail, Context, Result};
 use std::cell::Cell;
+use std::io::ErrorKind;
 use std::rc::Rc;
 
 pub struct Beside {
@@ -29,6 +31,40 @@ fn usable<T>(opened: Result<Option<T>>) -> Option<T> {
         eprintln!("hullpippin: {error:#}; so it isn't used");
         None
     })
+}
+
+/// What the file begins with that tells in what the driver does otherwise whose run a journal is.
+const WAYS: &str = "HPWAYS 1 ";
+
+fn ways_in(path: &str) -> Result<Option<Ways>> {
+    let text = match std::fs::read_to_string(path) {
+        Ok(text) => text,
+        Err(error) if error.kind() == ErrorKind::NotFound => return Ok(None),
+        Err(error) => return Err(error).context(path.to_string()),
+    };
+    let names = text.strip_prefix(WAYS).with_context(|| format!("{path}: it doesn't begin as differences do"))?;
+    let names = names.trim_end().split(',').filter(|it| !it.is_empty());
+    let ways = Ways::named(names).map_err(|name| anyhow::anyhow!("{path}: {name:?} is no difference"))?;
+    Ok(Some(ways))
+}
+
+/// In what the driver does otherwise whose run a journal is (`judge --journal`); of the rules' own runs in nothing.
+pub fn ways(journal: &str) -> Ways {
+    let is_file = journal != "-";
+    is_file.then(|| usable(ways_in(&format!("{journal}.ways")))).flatten().unwrap_or(Ways::NONE)
+}
+
+/// Lays them beside a journal, or takes away what lies there of another one.
+pub fn put_ways(journal: &str, ways: Ways) -> Result<()> {
+    let path = format!("{journal}.ways");
+    if ways != Ways::NONE {
+        let names: Vec<String> = ways.iter().map(|it| it.to_string()).collect();
+        return std::fs::write(&path, format!("{WAYS}{}\n", names.join(","))).context(path);
+    }
+    match std::fs::remove_file(&path) {
+        Err(error) if error.kind() != ErrorKind::NotFound => Err(error).context(path),
+        _ => Ok(()),
+    }
 }
 
 impl Beside {

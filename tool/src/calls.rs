@@ -4,11 +4,11 @@ use crate::aidl;
 use crate::codes::{
     Returns, BC_FREE_BUFFER, BC_TRANSACTION, BR_DEAD_BINDER, BR_DEAD_REPLY, BR_FAILED_REPLY, BR_TRANSACTION,
 };
+use crate::following::{About, Facts, ObjectId, Space};
 use crate::journal::{Answer, Entry, Step};
 use crate::record::Record;
 use crate::refusals::Reason;
 use crate::show::object_words;
-use crate::space::{About, Facts, ObjectId, Space};
 use crate::times::Moment;
 use std::collections::HashMap;
 
@@ -55,11 +55,11 @@ impl Objects for Space {
     }
 
     fn called(&self, object: ObjectId) -> Option<&str> {
-        self.objects.get(&object)?.called()
+        self.name_of(object)
     }
 
     fn interface(&self, object: ObjectId) -> Option<&str> {
-        self.objects.get(&object)?.interface.as_deref()
+        crate::rules::Space::called(self, object)?.interface.as_deref()
     }
 }
 

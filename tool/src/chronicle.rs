@@ -8,7 +8,7 @@ use crate::out::{Out, Palette};
 use crate::play::{Player, Range};
 use crate::times::duration_words;
 use crate::told::{Ending, Subject, Told, Unread, Wanted};
-use crate::who::{Comms, Person};
+use crate::who::{Comms, Person, NOT_RECORDED};
 use anyhow::Result;
 use std::collections::HashMap;
 use std::rc::Rc;
@@ -59,13 +59,14 @@ pub struct Chronicle<'a> {
     pub palette: Palette,
 }
 
-/// As `sensors(812/815)`; without a name `pid 812 seat 3`; without its process's pid `sensors(-/815)`.
+/// As `sensors(812/815)`; without a name `pid 812 seat 3`; without its process's pid `sensors(-/815)`; who wasn't recorded has no numbers.
 fn thread_words(doing: Doing, people: &dyn People) -> String {
     let pid = match doing.pid & OF_THREAD {
         0 => doing.pid.to_string(),
         _ => "-".into(),
     };
     match (people.comm(doing), doing.tid) {
+        (Some(comm), _) if doing.pid == NOT_RECORDED => comm.to_string(),
         (Some(comm), Some(tid)) => format!("{}({pid}/{tid})", comm.escape_debug()),
         (Some(comm), None) => format!("{}({pid})", comm.escape_debug()),
         (None, Some(tid)) => format!("({pid}/{tid})"),
@@ -77,6 +78,7 @@ fn thread_words(doing: Doing, people: &dyn People) -> String {
 fn server_words(call: &Call, people: &dyn People) -> String {
     match (call.taken, people.comms().get(call.to)) {
         (Some(taken), _) => thread_words(taken, people),
+        (None, Some(comm)) if call.to == NOT_RECORDED => comm.to_string(),
         (None, Some(comm)) => format!("{}({})", comm.escape_debug(), call.to),
         (None, None) => format!("pid {}", call.to),
     }

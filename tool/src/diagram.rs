@@ -2,12 +2,12 @@
 //! A recording as one page of HTML that stands alone: a lane for each thread's life, arrows for calls and replies, bars for what
 //! is served and waited for. The page draws only what is seen of it, so a long recording can be looked at too.
 use crate::calls::{Back, Call, Calls, Doing, Event, Objects};
+use crate::following::Facts;
 use crate::journal::{Answer, Entry, Step};
 use crate::kernel::trace::{Seen, Trace};
 use crate::out::Out;
 use crate::play::{Player, Range};
 use crate::show::method_code_words;
-use crate::space::Facts;
 use crate::times::{duration_words, Moment};
 use anyhow::Result;
 use serde::Serialize;

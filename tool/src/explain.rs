@@ -2,6 +2,7 @@
 //! Why an entry was answered so, with the facts; and what the names of refusals and returns mean.
 use crate::arguments::Format;
 use crate::codes::*;
+use crate::following::{About, Facts, ObjectId, Space, STRONG, WEAK};
 use crate::journal::{Answer, Entry, Step};
 use crate::json;
 use crate::order;
@@ -9,8 +10,8 @@ use crate::out::Palette;
 use crate::play::Player;
 use crate::record::{Flat, Parcel, Record, OBJECT_SIZE};
 use crate::refusals::{Kind, Reason};
+use crate::rules::{self, Item, Listed, Process, ProcessId, Server, Thread, FIRST_POINTER};
 use crate::show::{object_words, put_entry, Style};
-use crate::space::{About, Facts, Item, ItemKind, ObjectId, Process, Server, Space, Thread, STRONG, WEAK};
 use anyhow::{bail, Result};
 use serde::Serialize;
 use std::io::{self, Write};
@@ -149,13 +150,14 @@ struct Case<'a> {
     entry: &'a Entry<'a>,
     thread: Option<&'a Thread>,
     process: Option<&'a Process>,
+    id: ProcessId,
 }
 
 impl<'a> Case<'a> {
     fn new(space: &'a Space, entry: &'a Entry<'a>) -> Case<'a> {
-        let thread = space.threads.get(&entry.seat);
-        let process = thread.and_then(|it| space.processes.get(&it.process));
-        Case { space, entry, thread, process }
+        let thread = space.threads.get(entry.seat);
+        let id = thread.map_or(0, |it| it.process);
+        Case { space, entry, thread, process: space.processes.get(id), id }
     }
 
     fn pid(&self) -> u32 {
@@ -175,19 +177,19 @@ impl<'a> Case<'a> {
     }
 
     fn of_fault(&self, number: u8) -> Vec<String> {
-        let pids: Vec<_> =
-            self.space.processes.values().map(|it| format!("{} (opened at {})", it.pid, it.opened)).collect();
+        let opened = |it: &Process| format!("{} (opened at {})", it.pid, it.by.0.unwrap_or(0));
+        let pids: Vec<_> = self.space.processes.iter().map(|it| opened(it.1)).collect();
         let live = format!("live processes: {}", if pids.is_empty() { "none".into() } else { pids.join(", ") });
         let seat = self.entry.seat;
         match number {
             4 => vec![format!("seat {seat} has no thread: it never opened or attached, or has ended since")],
             5 => self
                 .thread
-                .map(|it| format!("seat {seat} has a thread of pid {}, since {}", it.pid, it.opened))
+                .map(|it| format!("seat {seat} has a thread of pid {}, since {}", self.pid(), it.by.0.unwrap_or(0)))
                 .into_iter()
                 .collect(),
             6 | 9 => vec![live],
-            10 => vec![match self.space.manager {
+            10 => vec![match self.space.manager.and_then(|it| self.space.id_of(it)) {
                 Some(it) => format!("the manager is object {}", object_words(self.space, it)),
                 None => format!("pid {} has an object with ptr 0 already", self.pid()),
             }],
@@ -202,8 +204,8 @@ impl<'a> Case<'a> {
             _ => return Vec::new(),
         };
         let mut facts = vec![format!("nothing stands on the list of seat {}", self.entry.seat)];
-        let waiting = process.todo.iter().filter(|it| self.space.stands(process.opened, it)).count();
-        facts.push(match (thread.looping, thread.frames.last()) {
+        let waiting = process.todo.len();
+        facts.push(match (thread.is_looping, self.space.innermost(self.entry.seat).map(|it| it.0)) {
             (false, _) => format!(
                 "it isn't in the loop, so it doesn't read the list of pid {}, on which {waiting} stand",
                 process.pid
@@ -251,8 +253,18 @@ impl<'a> Case<'a> {
         }
     }
 
+    fn words(&self, object: rules::ObjectId) -> String {
+        self.space.id_of(object).map_or_else(String::new, |it| object_words(self.space, it))
+    }
+
+    /// The process's own object with a ptr.
+    fn own(&self, ptr: u64) -> Option<(ObjectId, &'a rules::Object)> {
+        let object = self.space.objects.get((self.id, ptr))?;
+        Some((ObjectId::new(object.made), object))
+    }
+
     fn object_of(&self, handle: u32) -> Option<ObjectId> {
-        self.space.addressed(self.process?.opened, handle)
+        self.space.addressed(self.id, handle)
     }
 
     /// What the process knows by a handle, or knew.
@@ -263,11 +275,11 @@ impl<'a> Case<'a> {
         };
         let pid = process.pid;
         let mut facts = Vec::new();
-        match (process.names.get(handle), process.names.gone(handle)) {
+        match (process.names.get(handle), self.space.gone(self.id, handle)) {
             (Some(name), _) => facts.push(format!(
                 "pid {pid} names object {} by handle {handle} since {}, {}; it asked for {} strong and {} weak references",
-                object_words(self.space, name.object), name.since,
-                if name.is_strong() { "strongly" } else { "only weakly" }, name.asked[STRONG], name.asked[WEAK]
+                self.words(name.object), name.by.0.unwrap_or(0),
+                if name.count(STRONG) > 0 { "strongly" } else { "only weakly" }, name.asked[STRONG], name.asked[WEAK]
             )),
             (None, Some(gone)) => facts.push(format!(
                 "pid {pid} had handle {handle} for object {} from {} until it let go of it at {}",
@@ -279,7 +291,7 @@ impl<'a> Case<'a> {
             .names
             .iter()
             .take(32)
-            .map(|(handle, name)| format!("{handle} ({})", object_words(self.space, name.object)))
+            .map(|(handle, name)| format!("{handle} ({})", self.words(name.object)))
             .collect();
         let more = process.names.len().saturating_sub(has.len());
         let list = if has.is_empty() { "none".into() } else { has.join(", ") };
@@ -291,12 +303,12 @@ impl<'a> Case<'a> {
     }
 
     fn open_calls(&self) -> Vec<String> {
-        let thread = match self.thread {
-            Some(thread) if !thread.frames.is_empty() => thread,
-            _ => return vec!["the thread takes part in no open call".into()],
-        };
+        let calls = self.space.calls_of(self.entry.seat);
+        if calls.is_empty() {
+            return vec!["the thread takes part in no open call".into()];
+        }
         let told = |(depth, place): (usize, &u64)| {
-            let frame = self.space.frames.get(place)?;
+            let frame = self.space.frames.get(*place)?;
             let inner = if depth == 0 { "innermost" } else { "around it" };
             let server = match frame.server {
                 Server::Seat(seat) if seat == self.entry.seat => "which it serves".into(),
@@ -307,14 +319,16 @@ impl<'a> Case<'a> {
             let gone = if frame.caller.is_none() { ", whose calling thread has ended" } else { "" };
             Some(format!("{inner}: the call at {place} by pid {}{gone}, {server}", frame.caller_pid))
         };
-        thread.frames.iter().rev().enumerate().filter_map(told).collect()
+        calls.iter().rev().enumerate().filter_map(told).collect()
     }
 
     fn unread_answers(&self) -> Vec<String> {
-        let told = |item: &Item| match item.kind {
-            ItemKind::Call { made, .. } => Some(format!("unread on its list: the call at {made}")),
-            ItemKind::Reply { made, .. } => Some(format!("unread on its list: the reply at {made}")),
-            ItemKind::Verdict { call, reads } => {
+        let made = |buffer| self.space.buffer(buffer).map_or(0, |it| it.sent);
+        let told = |it: &Listed| match it.item {
+            Item::Call(buffer) => Some(format!("unread on its list: the call at {}", made(buffer))),
+            Item::Reply(buffer) => Some(format!("unread on its list: the reply at {}", made(buffer))),
+            Item::Verdict(reads) => {
+                let call = it.call.0.unwrap_or(0);
                 Some(format!("unread on its list: {} for the call at {call}", return_name(reads)))
             }
             _ => None,
@@ -323,13 +337,9 @@ impl<'a> Case<'a> {
     }
 
     fn other_cookie(&self, parcel: Parcel<'_>) -> Vec<String> {
-        let process = match self.process {
-            Some(process) => process,
-            None => return Vec::new(),
-        };
         let mut sent = std::collections::HashMap::new();
         for flat in parcel.objects().filter_map(|it| it.1).filter(|it| it.kind.is_binder()) {
-            let known = process.objects.get(&flat.binder).and_then(|it| Some((*it, self.space.objects.get(it)?)));
+            let known = self.own(flat.binder);
             let Flat { at, binder, cookie, .. } = flat;
             let here = format!("the object at {at:#x} has ptr {binder:#x} with cookie {cookie:#x}");
             if let Some((id, object)) = known.filter(|it| it.1.cookie != cookie) {
@@ -346,7 +356,7 @@ impl<'a> Case<'a> {
         let names = self.process.map(|it| &it.names);
         let fails = |flat: &Flat| {
             let name = names.and_then(|it| it.get(flat.binder as u32));
-            flat.kind.is_handle() && !name.map_or(false, |it| it.is_strong() || !flat.kind.is_strong())
+            flat.kind.is_handle() && !name.map_or(false, |it| it.count(STRONG) > 0 || !flat.kind.is_strong())
         };
         let flat = match parcel.objects().filter_map(|it| it.1).find(fails) {
             Some(flat) => flat,
@@ -359,12 +369,12 @@ impl<'a> Case<'a> {
 
     fn receiver(&self, command: &Message, record: &Record) -> Option<&'a Process> {
         let owner = if command.code.number == BC_TRANSACTION {
-            self.space.objects.get(&self.object_of(record.handle())?)?.owner
+            self.space.object(self.object_of(record.handle())?)?.0 .0
         } else {
-            let call = self.thread?.frames.last()?;
-            self.space.threads.get(&self.space.frames.get(call)?.caller?)?.process
+            let caller = self.space.innermost(self.entry.seat)?.1.caller?;
+            self.space.threads.get(caller)?.process
         };
-        self.space.processes.get(&owner)
+        self.space.processes.get(owner)
     }
 
     fn room(&self, command: &Message, record: &Record) -> Vec<String> {
@@ -372,15 +382,20 @@ impl<'a> Case<'a> {
             Some(process) => process,
             None => return Vec::new(),
         };
-        let (room, pid) = (&process.room, process.pid);
+        let pid = process.pid;
         let mut facts = vec![format!(
             "the parcel needs {} bytes; of the {} of pid {pid}'s window {} are taken by {} buffers, and its largest hole has {}",
-            record.needed(), room.size, room.used(), room.len(), room.largest_hole()
+            record.needed(), process.window, process.used(), process.buffers.len(), process.largest_hole()
         )];
         if record.is_one_way() && command.code.number == BC_TRANSACTION {
-            facts.push(format!("one-way buffers take {} of them, and may take {}", room.one_way(), room.size / 2));
+            facts.push(format!(
+                "one-way buffers take {} of them, and may take {}",
+                process.one_way(),
+                process.window / 2
+            ));
         }
-        let mut read: Vec<_> = room.iter().filter_map(|(at, it)| Some((it.read?, at, it.sent.pid))).collect();
+        let read = |(at, it): (u64, &rules::Buffer)| Some((it.read()?, FIRST_POINTER + at, it.sender_pid));
+        let mut read: Vec<_> = process.buffers.iter().filter_map(read).collect();
         read.sort_unstable();
         facts.extend(read.first().map(|(at, pointer, from)| {
             format!("its oldest buffer that was read and isn't freed: {pointer:#x}, read at {at}, from pid {from}")
@@ -407,22 +422,20 @@ impl<'a> Case<'a> {
             return None;
         }
         let process = self.process?;
-        let object = self.space.named(process.opened, handle)?;
-        Some(match self.space.death_on(process.opened, object) {
-            Some((made, it)) => {
-                format!("on it stands the notification asked for at {made} with cookie {:#x}", it.cookie)
+        let number = process.names.get(handle)?.death;
+        Some(match process.deaths.iter().find(|it| Some(it.number) == number) {
+            Some(it) => {
+                let (made, cookie) = (it.number, it.cookie);
+                format!("on it stands the notification asked for at {made} with cookie {cookie:#x}")
             }
             None => "no uncleared notification stands on it".into(),
         })
     }
 
     fn of_buffer(&self, pointer: u64) -> Vec<String> {
-        let room = match self.process {
-            Some(process) => &process.room,
-            None => return Vec::new(),
-        };
-        vec![match (room.get(pointer), room.freed(pointer)) {
-            (Some(it), _) => format!("the buffer was made at {} and hasn't been read", it.sent.made),
+        let buffer = self.space.buffer((self.id, pointer.wrapping_sub(FIRST_POINTER)));
+        vec![match (buffer, self.space.freed(self.id, pointer)) {
+            (Some(it), _) => format!("the buffer was made at {} and hasn't been read", it.sent),
             (None, Some(at)) => format!("the latest buffer with that pointer was freed at {at}"),
             (None, None) => "no buffer of this window ever had that pointer".into(),
         }]
@@ -434,10 +447,9 @@ impl<'a> Case<'a> {
             Some(process) => process,
             None => return Vec::new(),
         };
-        let object = process.objects.get(&ptr).and_then(|it| Some((*it, self.space.objects.get(it)?)));
-        vec![match object {
+        vec![match self.own(ptr) {
             Some((id, it)) if it.cookie != cookie => format!("object {id} has that ptr, with cookie {:#x}", it.cookie),
-            Some((id, it)) if it.handshakes[strength] => format!("object {id} waits for it"),
+            Some((id, it)) if it.handshake[strength] => format!("object {id} waits for it"),
             Some((id, _)) => {
                 format!("object {id} has both; it was told nothing that this acknowledges, or was answered already")
             }
@@ -450,9 +462,8 @@ impl<'a> Case<'a> {
             Some(process) => &process.deaths,
             None => return Vec::new(),
         };
-        let of = deaths.iter().filter(|(_, it)| it.cookie == cookie);
-        let told: Vec<_> =
-            of.map(|(made, it)| format!("the notification asked for at {made} is {}", it.phase.name())).collect();
+        let told = |it: &rules::Death| format!("the notification asked for at {} is {}", it.number, it.phase.name());
+        let told: Vec<_> = deaths.iter().filter(|it| it.cookie == cookie).map(told).collect();
         if told.is_empty() {
             vec!["no notification of this process has that cookie".into()]
         } else {
@@ -608,7 +619,7 @@ impl Telling<'_> {
         };
         let answer = given.as_ref().map_or(Some(entry.answer), |it| it.answer());
         let why = answer.map(|it| Why::new(&Case::new(&space, &entry), &it));
-        space.step(&entry, &mut known);
+        space.follow_entry(&entry, &mut known);
         player.beside.tell(place, entry.seat, &mut known);
         known.given = given.map(Box::new);
         if self.format == Format::Json {

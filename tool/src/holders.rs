@@ -1,8 +1,9 @@
 // SPDX-License-Identifier: Apache-2.0 OR MIT
 //! Who holds an object, and what is held too long.
+use crate::following::{ObjectId, Space, STRONG, WEAK};
 use crate::play::Player;
+use crate::rules::{self, Buffer, Process, ProcessId, FIRST_POINTER};
 use crate::show::{code_words, object_words};
-use crate::space::{Buffer, ObjectId, Process, Space, STRONG, WEAK};
 use anyhow::{bail, Result};
 use std::cmp::Reverse;
 use std::collections::BTreeMap;
@@ -13,37 +14,38 @@ const LOOKS: u64 = 8;
 
 /// Prints everything that holds an object.
 pub fn put_holders(to: &mut Vec<u8>, space: &Space, object: ObjectId) -> Result<()> {
-    let it = match space.objects.get(&object) {
-        Some(it) => it,
-        None => bail!("after {} steps there is no object {object}; `state` prints those that there are", space.steps),
+    let (its, it) = match space.object(object) {
+        Some(found) => found,
+        None => bail!("after {} steps there is no object {object}; `state` prints those that there are", space.made()),
     };
+    let references = space.references(its);
     let lives = if it.owner_lives { "" } else { ", which has ended" };
-    writeln!(to, "object {}{lives}, ptr {:#x} cookie {:#x}", object_words(space, object), it.ptr, it.cookie)?;
-    writeln!(to, "references: {} strong, {} weak", it.references[STRONG], it.references[WEAK])?;
-    if space.manager == Some(object) {
+    writeln!(to, "object {}{lives}, ptr {:#x} cookie {:#x}", object_words(space, object), its.1, it.cookie)?;
+    writeln!(to, "references: {} strong, {} weak", references[STRONG], references[WEAK])?;
+    if space.manager == Some(its) {
         writeln!(to, "  strong: it is the context manager's")?;
     }
     for (strength, word) in [(STRONG, "strong"), (WEAK, "weak")] {
-        if it.handshakes[strength] {
+        if it.handshake[strength] {
             writeln!(to, "  {word}: pid {} was told of it, and hasn't acknowledged that", it.owner_pid)?;
         }
     }
-    for process in space.processes.values() {
-        put_names(to, process, object)?;
-        for (pointer, buffer) in process.room.iter() {
-            put_buffer(to, process, pointer, buffer, object)?;
+    for (id, process) in space.processes.iter() {
+        put_names(to, space, id, its)?;
+        for (place, buffer) in process.buffers.iter() {
+            put_buffer(to, process, FIRST_POINTER + place, buffer, its)?;
         }
     }
     Ok(())
 }
 
-fn put_names(to: &mut Vec<u8>, process: &Process, object: ObjectId) -> io::Result<()> {
-    let handle = match process.names.handle_of(object) {
-        Some(handle) => handle,
-        None => return Ok(()),
+fn put_names(to: &mut Vec<u8>, space: &Space, process: ProcessId, object: rules::ObjectId) -> io::Result<()> {
+    let (handle, its) = match (space.handle_of(process, object), space.processes.get(process)) {
+        (Some(handle), Some(its)) => (handle, its),
+        _ => return Ok(()),
     };
-    let name = process.names.get(handle);
-    let (pid, since) = (process.pid, name.map_or(0, |it| it.since));
+    let name = its.names.get(handle);
+    let (pid, since) = (its.pid, name.and_then(|it| it.by.0).unwrap_or(0));
     writeln!(to, "  pid {pid} names it by handle {handle}, since {since}")?;
     for (strength, word) in [(STRONG, "strong"), (WEAK, "weak")] {
         let asked = name.map_or(0, |it| it.asked[strength]);
@@ -54,15 +56,21 @@ fn put_names(to: &mut Vec<u8>, process: &Process, object: ObjectId) -> io::Resul
     Ok(())
 }
 
-fn put_buffer(to: &mut Vec<u8>, process: &Process, pointer: u64, buffer: &Buffer, object: ObjectId) -> io::Result<()> {
+fn put_buffer(
+    to: &mut Vec<u8>,
+    process: &Process,
+    pointer: u64,
+    buffer: &Buffer,
+    object: rules::ObjectId,
+) -> io::Result<()> {
     let pid = process.pid;
-    let (made, from) = (buffer.sent.made, buffer.sent.pid);
-    let carries = buffer.carries.iter().flatten().filter(|it| it.object == object);
+    let (made, from) = (buffer.sent, buffer.sender_pid);
+    let carries = buffer.entries.iter().filter(|it| it.object == object);
     for carry in carries {
         let word = if carry.strength == 0 { "weak" } else { "strong" };
         writeln!(to, "  {word}: buffer {pointer:#x} of pid {pid} carries it, made at {made} by pid {from}")?;
     }
-    if buffer.sent.target == Some(object) {
+    if buffer.target == Some(object) {
         writeln!(to, "  strong: buffer {pointer:#x} of pid {pid} came by calling it, made at {made} by pid {from}")?;
     }
     Ok(())
@@ -78,27 +86,27 @@ struct Look {
     buffers: u64,
 }
 
-fn look(space: &Space, process: &Process) -> Look {
+fn look(space: &Space, id: ProcessId, process: &Process) -> Look {
     let asked = process.names.iter().flat_map(|(_, it)| it.asked).map(u64::from).sum();
     Look {
-        place: space.steps,
+        place: space.made(),
         names: process.names.len() as u64,
         asked,
-        objects: process.objects.len() as u64,
-        buffers: process.room.len() as u64,
+        objects: space.objects_owned(id).count() as u64,
+        buffers: process.buffers.len() as u64,
     }
 }
 
 /// One of the numbers of a look.
 type Count = fn(&Look) -> u64;
 
-/// What was seen of each process, by the place of its Open.
-type Looks = BTreeMap<u64, Vec<Look>>;
+/// What was seen of each process.
+type Looks = BTreeMap<ProcessId, Vec<Look>>;
 
 /// Looks at all processes of a space.
 fn look_at(space: &Space, looks: &mut Looks) {
-    for process in space.processes.values() {
-        looks.entry(process.opened).or_default().push(look(space, process));
+    for (id, process) in space.processes.iter() {
+        looks.entry(id).or_default().push(look(space, id, process));
     }
 }
 
@@ -128,15 +136,16 @@ fn put_growth(to: &mut Vec<u8>, pid: u32, looks: &[Look]) -> io::Result<()> {
 }
 
 fn put_unfreed(to: &mut Vec<u8>, space: &Space, process: &Process, most: usize) -> io::Result<()> {
-    let mut buffers: Vec<_> = process.room.iter().filter_map(|(at, it)| Some((it.read?, at, it))).collect();
+    let mut buffers: Vec<_> =
+        process.buffers.iter().filter_map(|(at, it)| Some((it.read()?, FIRST_POINTER + at, it))).collect();
     if buffers.is_empty() {
         return Ok(());
     }
     buffers.sort_by_key(|it| (it.0, it.1));
-    let (pid, count, used, size) = (process.pid, buffers.len(), process.room.used(), process.room.size);
+    let (pid, count, used, size) = (process.pid, buffers.len(), process.used(), process.window);
     writeln!(to, "pid {pid}: {count} buffers were read and not freed; {used} of {size} bytes of its window are taken")?;
     for (read, pointer, buffer) in buffers.iter().take(most) {
-        let (sent, needed, age) = (&buffer.sent, buffer.needed, space.steps - read);
+        let (sent, needed, age) = (space.sent(buffer), buffer.needed, space.made().saturating_sub(*read));
         let what = match (sent.answers, sent.target) {
             (Some(call), _) => format!("the reply at {} to the call at {call}", sent.made),
             (None, Some(target)) => format!("the call at {} on {}", sent.made, object_words(space, target)),
@@ -155,9 +164,9 @@ fn put_unfreed(to: &mut Vec<u8>, space: &Space, process: &Process, most: usize) 
 fn put_asked(to: &mut Vec<u8>, space: &Space, most: usize) -> io::Result<()> {
     let of = |process: &Process| -> Vec<_> {
         let more = process.names.iter().filter(|(_, it)| it.asked[STRONG] > 1 || it.asked[WEAK] > 1);
-        more.map(|(handle, it)| (it.asked, process.pid, handle, it.object)).collect()
+        more.filter_map(|(handle, it)| Some((it.asked, process.pid, handle, space.id_of(it.object)?))).collect()
     };
-    let mut asked: Vec<_> = space.processes.values().flat_map(of).collect();
+    let mut asked: Vec<_> = space.processes.iter().flat_map(|it| of(it.1)).collect();
     asked.sort_by_key(|it| (Reverse(it.0.iter().copied().max()), it.1, it.2));
     for ([weak, strong], pid, handle, object) in asked.into_iter().take(most) {
         let object = object_words(space, object);
@@ -194,12 +203,12 @@ pub fn put_leaks(to: &mut Vec<u8>, player: &mut Player, place: Option<u64>, most
         player.until(place)?;
     }
     let space = &player.space;
-    writeln!(to, "after {} steps", space.steps)?;
+    writeln!(to, "after {} steps", space.made())?;
     let before = to.len();
-    space.processes.values().try_for_each(|it| put_unfreed(to, space, it, most))?;
+    space.processes.iter().try_for_each(|it| put_unfreed(to, space, it.1, most))?;
     put_asked(to, space, most)?;
-    for process in space.processes.values() {
-        put_growth(to, process.pid, looks.get(&process.opened).map_or(&[], |it| &it[..]))?;
+    for (id, process) in space.processes.iter() {
+        put_growth(to, process.pid, looks.get(&id).map_or(&[], |it| &it[..]))?;
     }
     if to.len() == before {
         writeln!(to, "nothing is held: each buffer that was read is freed, and nothing grows")?;

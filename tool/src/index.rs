@@ -2,8 +2,8 @@
 //! An index beside a journal: what the steps had come to at some places, so that one needn't begin at the first.
 //!
 //! FILE.index begins with eight bytes and the place of its table; then come spaces, one after the other; then the table.
+use crate::following::Space;
 use crate::play::Player;
-use crate::space::Space;
 use anyhow::{bail, ensure, Context, Result};
 use bincode::Options;
 use serde::de::DeserializeOwned;
@@ -12,7 +12,7 @@ use std::fs::{rename, File};
 use std::io::{BufWriter, Seek, SeekFrom, Write};
 use std::os::unix::fs::FileExt;
 
-const MARK: &[u8; 8] = b"HPIX0001";
+const MARK: &[u8; 8] = b"HPIX0002";
 const HEAD: u64 = 16;
 /// How many entries lie at least between two spaces.
 const APART: u64 = 16384;

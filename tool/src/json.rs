@@ -1,12 +1,12 @@
 // SPDX-License-Identifier: Apache-2.0 OR MIT
 //! Entries as values of JSON, one a line. The members that `bplay show --format json` has are the same here; there are more.
 use crate::codes::{Message, Payload, Returns, BC_TRANSACTION, BR_TRANSACTION};
+use crate::following::{About, Facts, ObjectId, Sent, Space};
 use crate::journal::{Answer, Entry, Step};
 use crate::parcel;
 use crate::record::{Parcel, Record};
 use crate::refusals::Kind;
 use crate::show::{person_words, spans};
-use crate::space::{About, Facts, ObjectId, Sent, Space};
 use crate::times::Moment;
 use crate::who::Person;
 use serde::{Serialize, Serializer};
@@ -192,11 +192,10 @@ struct Named {
 }
 
 fn object(space: &Space, id: ObjectId) -> Named {
-    let it = space.objects.get(&id);
     Named {
         object: Word(id),
-        owner: it.map(|it| it.owner_pid),
-        called: it.and_then(|it| it.called()).map(String::from),
+        owner: space.object(id).map(|it| it.1.owner_pid),
+        called: space.name_of(id).map(String::from),
     }
 }
 

@@ -16,6 +16,7 @@ mod diagram;
 mod documents;
 mod explain;
 mod export;
+mod following;
 #[cfg(feature = "fuzz")]
 mod fuzz;
 mod holders;
@@ -40,7 +41,6 @@ mod select;
 mod sequence;
 mod show;
 mod source;
-mod space;
 mod state;
 mod stats;
 mod times;
@@ -302,7 +302,12 @@ fn talk_rules(ways: rules::Ways, from: impl BufRead, out: &mut Out) -> Result<()
 }
 
 /// The status with which it ends.
-fn run(arguments: &Arguments, out: &mut Out) -> Result<u8> {
+fn run(arguments: &mut Arguments, out: &mut Out) -> Result<u8> {
+    if let Some(path) = arguments.word.journal_mut() {
+        if let Some(order) = judging::shown_by(path)? {
+            *path = order;
+        }
+    }
     if let Some(folder) = &arguments.aidl {
         aidl::want(folder)?;
     }
@@ -364,11 +369,11 @@ fn is_closed_pipe(error: &anyhow::Error) -> bool {
 }
 
 fn main() -> ExitCode {
-    let arguments = Arguments::parse();
+    let mut arguments = Arguments::parse();
     progress::want(arguments.progress);
     let mut out =
         Out::new(!arguments.no_pager && !arguments.progress && !arguments.follows() && !arguments.is_for_programs());
-    let done = run(&arguments, &mut out);
+    let done = run(&mut arguments, &mut out);
     let closed = out.close().map_err(anyhow::Error::from);
     match done.and_then(|status| closed.map(|()| status)) {
         Ok(status) => ExitCode::from(status),

@@ -1,13 +1,13 @@
 // SPDX-License-Identifier: Apache-2.0 OR MIT
 //! A journal that is gone through, entry by entry, with what its steps come to.
-use crate::beside::Beside;
+use crate::beside::{self, Beside};
+use crate::following::{Facts, Space};
 use crate::index;
 use crate::journal::Entry;
 use crate::judge::Judge;
 use crate::kernel;
 use crate::progress::Progress;
 use crate::source::{End, Source};
-use crate::space::{Facts, Space};
 use crate::times::TimeWord;
 use anyhow::{bail, Context, Result};
 use clap::Args;
@@ -115,7 +115,7 @@ impl Player {
         let source = Source::open(path, follows);
         let source = source.with_context(|| name(path)).map_err(|it| kernel::explain_fault(path, it))?;
         let beside = Beside::open(path, follows);
-        let (space, facts) = (Space::default(), Facts::default());
+        let (space, facts) = (Space::remembering(beside::ways(path).followed()), Facts::default());
         Ok(Player {
             path: path.into(),
             source,
@@ -206,7 +206,7 @@ impl Player {
             Some(entry) => entry,
             None => return Ok(None),
         };
-        space.step(&entry, facts);
+        space.follow_entry(&entry, facts);
         beside.tell(entry.place, entry.seat, facts);
         if let Some(it) = progress {
             it.step(count);

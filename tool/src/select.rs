@@ -1,9 +1,9 @@
 // SPDX-License-Identifier: Apache-2.0 OR MIT
 //! Which entries are wanted.
 use crate::codes::{Payload, Returns, COMMANDS, RETURNS};
+use crate::following::{About, Facts, ObjectId};
 use crate::journal::{Answer, Entry, Step};
 use crate::record::Parcel;
-use crate::space::{About, Facts, ObjectId};
 use crate::who::Person;
 use clap::Args;
 use std::num::ParseIntError;

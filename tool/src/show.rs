@@ -2,12 +2,12 @@
 //! Entries as lines for people.
 use crate::aidl;
 use crate::codes::{Message, Payload, Returns, Unread, BC_TRANSACTION, BR_TRANSACTION};
+use crate::following::{About, Carried, Facts, ObjectId, Sent, Space};
 use crate::journal::{Answer, Entry, Step};
 use crate::judge::Given;
 use crate::out::Palette;
 use crate::parcel;
 use crate::record::{Flat, Parcel, Record, FLAGS, OBJECT_SIZE};
-use crate::space::{About, Carried, Facts, ObjectId, Sent, Space};
 use crate::times::duration_words;
 use crate::wrapped::Wrapped;
 use std::io::{self, Write};
@@ -25,8 +25,8 @@ pub struct Style {
 
 /// The words for an object, as `3.0 "manager" of pid 100`.
 pub fn object_words(space: &Space, object: ObjectId) -> String {
-    match space.objects.get(&object) {
-        Some(it) => match it.called() {
+    match space.object(object) {
+        Some((_, it)) => match space.name_of(object) {
             Some(name) => format!("{object} \"{name}\" of pid {}", it.owner_pid),
             None => format!("{object} of pid {}", it.owner_pid),
         },

@@ -1,9 +1,10 @@
 // SPDX-License-Identifier: Apache-2.0 OR MIT
 //! What each process has at a place: as lines, as JSON, and as what differs between two places.
 use crate::codes::return_name;
+use crate::following::{ObjectId, Space, STRONG, WEAK};
 use crate::json::{Hex, ToldPerson, Word};
 use crate::play::{Player, Spot};
-use crate::space::{Buffer, Item, ItemKind, ObjectId, Process, Server, Space, Thread, Todo, STRONG, WEAK};
+use crate::rules::{Buffer, Item, Listed, Process, ProcessId, Thread, Todo, FIRST_POINTER};
 use anyhow::Result;
 use serde::Serialize;
 use std::collections::BTreeMap;
@@ -28,18 +29,19 @@ struct ToldItem {
 }
 
 impl ToldItem {
-    fn new(item: &Item) -> ToldItem {
+    fn new(space: &Space, item: &Listed) -> ToldItem {
         let (object, spam, name, made, cookie) = (None, None, None, None, None);
-        let told = ToldItem { since: item.id.0, kind: "", object, spam, name, made, cookie };
-        match item.kind {
-            ItemKind::Notice(object) => ToldItem { kind: "notice", object: Some(Word(object)), ..told },
-            ItemKind::Complete { spam } => ToldItem { kind: "complete", spam: Some(spam), ..told },
-            ItemKind::Refusal { reads } => ToldItem { kind: "refusal", name: Some(return_name(reads)), ..told },
-            ItemKind::Call { made, .. } => ToldItem { kind: "call", made: Some(made), ..told },
-            ItemKind::Reply { made, .. } => ToldItem { kind: "reply", made: Some(made), ..told },
-            ItemKind::Verdict { reads, .. } => ToldItem { kind: "verdict", name: Some(return_name(reads)), ..told },
-            ItemKind::Death { made, .. } => ToldItem { kind: "death", made: Some(made), ..told },
-            ItemKind::Cleared { cookie } => ToldItem { kind: "cleared", cookie: Some(Hex(cookie)), ..told },
+        let told = ToldItem { since: item.by.0.unwrap_or(0), kind: "", object, spam, name, made, cookie };
+        let sent = |buffer| space.buffer(buffer).map(|it| it.sent);
+        match item.item {
+            Item::Notice(object) => ToldItem { kind: "notice", object: space.id_of(object).map(Word), ..told },
+            Item::Complete(spam) => ToldItem { kind: "complete", spam: Some(spam), ..told },
+            Item::Refusal(reads) => ToldItem { kind: "refusal", name: Some(return_name(reads)), ..told },
+            Item::Call(buffer) => ToldItem { kind: "call", made: sent(buffer), ..told },
+            Item::Reply(buffer) => ToldItem { kind: "reply", made: sent(buffer), ..told },
+            Item::Verdict(reads) => ToldItem { kind: "verdict", name: Some(return_name(reads)), ..told },
+            Item::Death(made) => ToldItem { kind: "death", made: Some(made), ..told },
+            Item::Cleared(cookie) => ToldItem { kind: "cleared", cookie: Some(Hex(cookie)), ..told },
         }
     }
 
@@ -141,53 +143,50 @@ struct ToldSpace {
     manager: Option<Word<ObjectId>>,
 }
 
-fn items(space: &Space, process: &Process, todo: &Todo) -> Vec<ToldItem> {
-    todo.iter().filter(|it| space.stands(process.opened, it)).map(ToldItem::new).collect()
+fn items(space: &Space, todo: &Todo) -> Vec<ToldItem> {
+    todo.iter().map(|it| ToldItem::new(space, it)).collect()
 }
 
-fn thread(player: &Player, process: &Process, seat: u32, it: &Thread) -> ToldThread {
+fn thread(player: &Player, seat: u32, it: &Thread) -> ToldThread {
     let space = &player.space;
-    let innermost = it.frames.last().copied();
-    let serves = innermost.filter(|it| space.frames.get(it).map_or(false, |it| it.server == Server::Seat(seat)));
+    let innermost = space.innermost(seat).map(|it| it.0);
+    let serves = space.served(seat).map(|it| it.0);
     ToldThread {
         seat,
         thread: player.beside.sitting(seat).map(ToldPerson::new),
         serves,
         waits: if serves.is_none() { innermost } else { None },
-        looping: it.looping,
+        looping: it.is_looping,
         ready: space.is_ready(seat),
-        unread: items(space, process, &it.todo),
+        unread: items(space, &it.todo),
     }
 }
 
-fn objects(space: &Space, process: &Process) -> Vec<ToldObject> {
-    let named_by = |object| {
-        let names = |it: &&Process| it.names.handle_of(object).is_some();
-        space.processes.values().filter(names).map(|it| it.pid).collect()
-    };
-    let told = |id: &ObjectId| {
-        let it = space.objects.get(id)?;
-        Some(ToldObject {
-            object: Word(*id),
-            ptr: Hex(it.ptr),
+fn objects(space: &Space, process: ProcessId) -> Vec<ToldObject> {
+    let pid = |it: &(ProcessId, u32)| space.processes.get(it.0).map(|it| it.pid);
+    let told = |(ptr, it): (u64, &crate::rules::Object)| {
+        let id = ObjectId::new(it.made);
+        ToldObject {
+            object: Word(id),
+            ptr: Hex(ptr),
             cookie: Hex(it.cookie),
             told_weak: it.told[WEAK],
             told_strong: it.told[STRONG],
-            called: it.called().map(String::from),
-            named_by: named_by(*id),
-        })
+            called: space.name_of(id).map(String::from),
+            named_by: it.names.iter().filter_map(pid).collect(),
+        }
     };
-    let mut objects: Vec<_> = process.objects.values().filter_map(told).collect();
+    let mut objects: Vec<_> = space.objects_owned(process).map(told).collect();
     objects.sort_by_key(|it| it.object.0);
     objects
 }
 
 /// For each object the places at which buffers in that window were made that carry it.
-fn carried(process: &Process) -> BTreeMap<ObjectId, Vec<u64>> {
-    let mut places: BTreeMap<ObjectId, Vec<u64>> = BTreeMap::new();
-    for (_, buffer) in process.room.iter() {
-        for carry in buffer.carries.iter().flatten() {
-            places.entry(carry.object).or_default().push(buffer.sent.made);
+fn carried(process: &Process) -> BTreeMap<crate::rules::ObjectId, Vec<u64>> {
+    let mut places: BTreeMap<crate::rules::ObjectId, Vec<u64>> = BTreeMap::new();
+    for (_, buffer) in process.buffers.iter() {
+        for carry in &buffer.entries {
+            places.entry(carry.object).or_default().push(buffer.sent);
         }
     }
     places.values_mut().for_each(|it| it.sort_unstable());
@@ -197,59 +196,60 @@ fn carried(process: &Process) -> BTreeMap<ObjectId, Vec<u64>> {
 
 fn handles(space: &Space, process: &Process) -> Vec<ToldHandle> {
     let carried = carried(process);
-    let told = |(handle, name): (u32, &crate::space::Name)| {
-        let object = space.objects.get(&name.object);
-        ToldHandle {
+    let told = |(handle, name): (u32, &crate::rules::Name)| {
+        let object = space.objects.get(name.object)?;
+        let id = ObjectId::new(object.made);
+        Some(ToldHandle {
             handle,
-            object: Word(name.object),
-            owner: object.map(|it| it.owner_pid),
-            strong: name.is_strong(),
+            object: Word(id),
+            owner: Some(object.owner_pid),
+            strong: name.count(STRONG) > 0,
             asked_strongly: name.asked[STRONG] > 0,
             asked_weakly: name.asked[WEAK] > 0,
             carried: carried.get(&name.object).cloned().unwrap_or_default(),
-            called: object.and_then(|it| it.called()).map(String::from),
+            called: space.name_of(id).map(String::from),
             asked: [name.asked[STRONG], name.asked[WEAK]],
-        }
+        })
     };
-    process.names.iter().map(told).collect()
+    process.names.iter().filter_map(told).collect()
 }
 
-fn buffer(pointer: u64, it: &Buffer) -> ToldBuffer {
+fn buffer(space: &Space, place: u64, it: &Buffer) -> ToldBuffer {
     ToldBuffer {
-        buffer: Hex(pointer),
+        buffer: Hex(FIRST_POINTER + place),
         size: it.needed,
-        made: it.sent.made,
-        target: it.sent.target.map(Word),
-        carries: it.carries.iter().flatten().map(|it| Word(it.object)).collect(),
-        one_way: it.one_way,
-        unread: it.read.is_none(),
-        from: it.sent.pid,
-        code: it.sent.code,
-        read: it.read,
+        made: it.sent,
+        target: it.target.and_then(|it| space.id_of(it)).map(Word),
+        carries: it.entries.iter().filter_map(|it| space.id_of(it.object)).map(Word).collect(),
+        one_way: it.is_one_way,
+        unread: it.read().is_none(),
+        from: it.sender_pid,
+        code: it.code,
+        read: it.read(),
     }
 }
 
-fn process(player: &Player, it: &Process) -> ToldProcess {
+fn process(player: &Player, id: ProcessId, it: &Process) -> ToldProcess {
     let space = &player.space;
-    let threads = space.threads.iter().filter(|(_, thread)| thread.process == it.opened);
-    let mut buffers: Vec<_> = it.room.iter().map(|(pointer, it)| buffer(pointer, it)).collect();
+    let threads = space.threads.iter().filter(|(_, thread)| thread.process == id);
+    let mut buffers: Vec<_> = it.buffers.iter().map(|(place, it)| buffer(space, place, it)).collect();
     buffers.sort_by_key(|it| it.made);
-    let death = |(made, it): (&u64, &crate::space::Death)| ToldDeath {
-        made: *made,
-        object: Word(it.object),
+    let death = |it: &crate::rules::Death| ToldDeath {
+        made: it.number,
+        object: Word(ObjectId::new(it.object)),
         cookie: Hex(it.cookie),
         phase: it.phase.name(),
-        cleared: it.cleared,
+        cleared: it.is_cleared,
     };
     ToldProcess {
         pid: it.pid,
         euid: it.euid,
-        window: it.room.size,
-        opened: it.opened,
-        spam_detection: it.spam,
-        unread: items(space, it, &it.todo),
-        threads: threads.map(|(seat, thread)| self::thread(player, it, *seat, thread)).collect(),
-        objects: objects(space, it),
+        window: it.window,
+        opened: it.by.0.unwrap_or(0),
+        spam_detection: it.is_marked,
+        unread: items(space, &it.todo),
+        threads: threads.map(|(seat, thread)| self::thread(player, seat, thread)).collect(),
+        objects: objects(space, id),
         handles: handles(space, it),
         buffers,
         deaths: it.deaths.iter().map(death).collect(),
@@ -348,13 +348,17 @@ fn buffer_line(it: &ToldBuffer) -> (String, String) {
 }
 
 fn told(player: &Player) -> impl Iterator<Item = ToldProcess> + '_ {
-    player.space.processes.values().map(move |it| process(player, it))
+    player.space.processes.iter().map(move |(id, it)| process(player, id, it))
+}
+
+fn manager(space: &Space) -> Option<ObjectId> {
+    space.id_of(space.manager?)
 }
 
 pub fn put_text(to: &mut Vec<u8>, player: &Player) -> io::Result<()> {
     let space = &player.space;
-    writeln!(to, "after {} steps", space.steps)?;
-    if let Some(manager) = space.manager {
+    writeln!(to, "after {} steps", space.made())?;
+    if let Some(manager) = manager(space) {
         writeln!(to, "manager object {manager}")?;
     }
     for process in told(player) {
@@ -368,7 +372,7 @@ pub fn put_text(to: &mut Vec<u8>, player: &Player) -> io::Result<()> {
 
 pub fn put_json(to: &mut Vec<u8>, player: &Player) -> Result<()> {
     let space = &player.space;
-    serde_json::to_writer(&mut *to, &ToldSpace { steps: space.steps, manager: space.manager.map(Word) })?;
+    serde_json::to_writer(&mut *to, &ToldSpace { steps: space.made(), manager: manager(space).map(Word) })?;
     to.push(b'\n');
     for process in told(player) {
         serde_json::to_writer(&mut *to, &process)?;
@@ -380,7 +384,7 @@ pub fn put_json(to: &mut Vec<u8>, player: &Player) -> Result<()> {
 /// Each line of a state by whose it is and what it is known by.
 fn known(player: &Player) -> BTreeMap<(u64, usize, String), String> {
     let mut lines = BTreeMap::new();
-    let manager = player.space.manager.map_or("none".into(), |it| format!("object {it}"));
+    let manager = manager(&player.space).map_or("none".into(), |it| format!("object {it}"));
     lines.insert((0, 0, "manager".into()), format!(" {manager}"));
     for process in told(player) {
         let of = |order: usize, name: String| (process.opened + 1, order, name);

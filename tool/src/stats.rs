@@ -2,13 +2,13 @@
 //! What there is how often, and which calls took longest: by the clock where the journal has times beside it, else in entries.
 use crate::calls::{Call, Calls, Doing, Event, Objects, Why};
 use crate::codes::Returns;
+use crate::following::{Facts, Space};
 use crate::journal::{Answer, Entry};
 use crate::kernel;
 use crate::kernel::trace::{Seen, Trace};
 use crate::play::{Player, Range};
 use crate::refusals::Reason;
 use crate::show::method_code_words;
-use crate::space::{Facts, Space};
 use crate::times::{duration_words, Moment};
 use crate::who::Comms;
 use anyhow::Result;

@@ -2,7 +2,7 @@
 //! Names beside a journal. JOURNAL.who begins with the line `HPWHO 1 DEVICE`; then comes a line each time that a seat goes to a
 //! thread, `PLACE SEAT PID TID COMM`, or is given back, `PLACE SEAT -`: from the entry at that place on.
 use crate::calls::OF_THREAD;
-use crate::space::Facts;
+use crate::following::Facts;
 use anyhow::{ensure, Context, Result};
 use std::collections::HashMap;
 use std::fs::File;
@@ -116,6 +116,9 @@ pub struct Who {
     is_over: bool,
     follows: bool,
 }
+
+/// The pid of who stands in for all that weren't recorded; Linux gives none so high.
+pub const NOT_RECORDED: u32 = 0x00ff_ffff;
 
 pub fn path_of(journal: &str) -> String {
     format!("{journal}.who")

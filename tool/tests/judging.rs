@@ -19,7 +19,8 @@ fn verdict(bytes: &[u8], words: &[&str]) -> (String, Option<i32>) {
     // Tests run beside one another.
     let number = NEXT.fetch_add(1, Ordering::Relaxed);
     let file = kept(&format!("judged-{number}.recording"), bytes);
-    let done = run(&[&["judge", file.path()], words].concat());
+    // What is tested isn't built to be fast.
+    let done = run(&[&["judge", file.path(), "--seconds", "600"], words].concat());
     let text = String::from_utf8(done.stdout).expect("text");
     (text.lines().next().unwrap_or("").to_string(), done.status.code())
 }
@@ -61,6 +62,20 @@ fn raw_clients_on_a_newer_driver_are_lawful() {
     }
     let (told, status) = verdict(&recording("two_opens-2"), &[]);
     assert_eq!((told.as_str(), status), ("6 processes, 7 threads, 106 steps: lawful, with own_pid", Some(0)));
+}
+
+/// Three threads' calls that say the same: which read has got which is told by when each was replied to.
+#[test]
+fn calls_that_say_the_same_are_told_apart_by_their_replies() {
+    let (told, status) = verdict(&recording("meets"), &["--tries", "200"]);
+    assert_eq!((told.as_str(), status), ("2 processes, 8 threads, 41 steps: lawful", Some(0)));
+}
+
+/// The beginning of a storm that needs no difference, though the search without one misses its order, and so do those with *waiter*.
+#[test]
+fn an_order_is_sought_early_without_waiter() {
+    let (told, status) = verdict(&recording("unwaited"), &["--tries", "60000"]);
+    assert_eq!((told.as_str(), status), ("4 processes, 11 threads, 120 steps: lawful", Some(0)));
 }
 
 #[test]
@@ -125,7 +140,7 @@ fn who_was_not_recorded_is_stood_in_for() {
     assert!(told.starts_with("2 processes, 2 threads, 37 steps: lawful\n"), "{told}");
     assert!(told.contains("3 calls went to processes that weren't recorded: pid 16777215 stands in"), "{told}");
     let calls = printed(&["calls", order.path()]);
-    assert_eq!(calls.matches("(not recorded)(16777215/16777215) manager").count(), 3, "{calls}");
+    assert_eq!(calls.matches(" -> (not recorded) manager").count(), 3, "{calls}");
     assert!(printed(&["leaks", order.path()]).contains("nothing is held"));
     for beside in [".times", ".who"] {
         fs::remove_file(format!("{}{beside}", order.path())).expect("it was there");
@@ -191,4 +206,116 @@ fn what_is_no_recording_is_refused() {
     }
     let file = kept("none.recording", b"HPREC002 and more");
     assert!(fault(&["judge", file.path()]).contains("byte 0: neither a thread's file nor a trace begins here"));
+}
+
+/// Where in a recording the file of each thread begins and ends, and where its last record begins.
+fn last_records(bytes: &[u8]) -> Vec<(usize, usize, usize)> {
+    let u32_at = |at: usize| u32::from_le_bytes(bytes[at..at + 4].try_into().expect("four bytes")) as usize;
+    let (mut file, mut found) = (0, Vec::new());
+    while file < bytes.len() {
+        let end = file + u32_at(file + 8);
+        let (mut at, mut last) = (file + 64, file + 64);
+        while at < end {
+            last = at;
+            at += u32_at(at);
+        }
+        found.push((file, end, last));
+        file = end;
+    }
+    found
+}
+
+/// A thread that is killed while it keeps what it has read: the record says already how much that is, or how long it is now, and the file
+/// doesn't. It is as if the call had never come back.
+#[test]
+fn a_thread_may_be_killed_while_it_keeps_what_it_read() {
+    let whole = recording("told");
+    let put = |to: &mut [u8], at: usize, number: u32| to[at..at + 4].copy_from_slice(&number.to_le_bytes());
+    let u32_at = |at: usize| u32::from_le_bytes(whole[at..at + 4].try_into().expect("four bytes"));
+    let mut tried = 0;
+    for (file, end, at) in last_records(&whole) {
+        if u32_at(at + 4) != 4 || u32_at(at + 24 + 72) == 0 {
+            continue;
+        }
+        tried += 1;
+        let kept = at + 24 + 88 + (u32_at(at + 24 + 64) as usize + 7) / 8 * 8 + u32_at(at + 24 + 68) as usize;
+        let cut = |size: usize, came_back: bool, returned: bool| {
+            let mut bytes = whole[..kept].to_vec();
+            put(&mut bytes, file + 8, (kept - file) as u32);
+            put(&mut bytes, at, size as u32);
+            if !came_back {
+                bytes[at + 16..at + 24].fill(0);
+            }
+            if !returned {
+                bytes[at + 24 + 72..at + 24 + 80].fill(0);
+            }
+            bytes.extend(&whole[end..]);
+            verdict(&bytes, &["--tries", "20000"])
+        };
+        let never = cut(kept - at, false, false);
+        assert!(never.0.contains(" steps: "), "{never:?}");
+        assert_eq!(cut(kept - at, false, true), never, "the record says how much it had read");
+        assert_eq!(cut(end - at, true, true), never, "the record has its whole length");
+    }
+    assert!(tried > 0, "no thread ends with a read");
+}
+
+/// libgbinder's tools with our manager and service, recorded on Linux 6.1 from the first open on.
+#[test]
+fn a_recording_is_shown_by_its_order() {
+    let file = kept("tools.recording", &recording("tools"));
+    let done = run(&["calls", file.path()]);
+    let (calls, said) = (String::from_utf8(done.stdout).expect("text"), String::from_utf8(done.stderr).expect("text"));
+    let verdict = "4 processes, 6 threads, 87 steps: lawful, with cleared; its order is in ";
+    assert!(said.contains(verdict) && said.lines().count() == 1, "{said}");
+    assert_eq!(calls.matches(" -> servicemanager(181/181) manager").count(), 6, "{calls}");
+    assert_eq!(calls.matches("binder-ping(188/188) -> hello(183/183) hello _PNG").count(), 1, "{calls}");
+    // It is there now, and isn't sought again.
+    assert!(printed(&["leaks", file.path()]).contains("pid 183: 1 buffers were read and not freed"));
+    let order = format!("{}.order", file.path());
+    assert_eq!(fs::read_to_string(format!("{order}.ways")).expect("its differences"), "HPWAYS 1 cleared\n");
+    // By them it is known which thread has read what was due to its process.
+    let unread = |path: &str| printed(&["state", path]).matches("unread since").count();
+    assert_eq!(unread(file.path()), 1);
+    fs::write(format!("{order}.ways"), "HPWAYS 1 nosuch\n").expect("the file");
+    let told = String::from_utf8(run(&["state", &order]).stderr).expect("text");
+    assert!(told.contains("\"nosuch\" is no difference; so it isn't used"), "{told}");
+    fs::remove_file(format!("{order}.ways")).expect("it was there");
+    assert_eq!(unread(&order), 3);
+    for beside in ["", ".times", ".who"] {
+        fs::remove_file(format!("{order}{beside}")).expect("it was there");
+    }
+}
+
+/// A program that waits for ever is ended from the terminal, and what it asked by then is told; the status is the program's.
+#[test]
+fn what_ends_a_program_does_not_end_its_recording() {
+    let into = kept("interrupted", b"");
+    let recorded = |name: &str, script: &str| {
+        let into = format!("{}.{name}", into.path());
+        let mut command = program();
+        command.args(["record", "--no-trace", "--into", &into, "sh", "-c", script]);
+        // Nothing is recorded here: what stands in the library's place is none, and `env` in the place of what finds a daemon.
+        let done = command
+            .env("HULLPIPPIN_RUN", "env")
+            .env("HULLPIPPIN_RECORDER", concat!(env!("CARGO_MANIFEST_DIR"), "/Cargo.toml"));
+        let done = done.output().expect("the program");
+        fs::remove_dir(&into).expect("its folder");
+        (String::from_utf8(done.stdout).expect("text"), done.status.code())
+    };
+    let (told, status) = recorded("outlived", "kill -INT $PPID; sleep 0.2; exit 7");
+    assert!(told.contains("nothing was recorded") && status == Some(7), "{told} {status:?}");
+    let (told, status) = recorded("ended", "kill -TERM $$");
+    assert!(told.contains("nothing was recorded") && status == Some(143), "{told} {status:?}");
+}
+
+/// Of one without an order nothing is shown, and why is said.
+#[test]
+fn without_an_order_nothing_is_shown() {
+    let file = kept("nested-alone.recording", &without_manager(&recording("nested-3")));
+    let told = fault(&["show", file.path()]);
+    assert!(
+        told.contains("steps: unknown: no order was found beyond 3 steps; without an order nothing is shown"),
+        "{told}"
+    );
 }

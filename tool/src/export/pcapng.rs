@@ -4,11 +4,11 @@
 //! A packet begins with the entry's seat and pid; then stand the command, or the returns that were read, and then the data of
 //! the parcel, all as they crossed. The kind of the link is USER0, for which a dissector of one's own may be written. A packet is
 //! stamped with the real time where that lies beside the journal, in nanoseconds; else the entry at place K with K microseconds.
+use crate::following::{Facts, Space};
 use crate::journal::{Answer, Entry, Step};
 use crate::out::Out;
 use crate::play::{Player, Range};
 use crate::show::{put_line, Style};
-use crate::space::{Facts, Space};
 use anyhow::Result;
 
 const SECTION: u32 = 0x0a0d_0d0a;

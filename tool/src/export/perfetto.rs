@@ -6,13 +6,13 @@
 //! Where times lie beside the journal an entry stands at its time by the monotonic clock, and what it begins and ends follow one
 //! another by a nanosecond each. Else the entry at place K stands at K microseconds, and all follow one another within that.
 use crate::calls::{Call, Calls, Doing, Event, Objects, Why};
+use crate::following::{Facts, Space};
 use crate::journal::{Answer, Entry, Step};
 use crate::kernel::following::Following;
 use crate::kernel::trace::{Seen, Trace as Kernel};
 use crate::out::Out;
 use crate::play::{Player, Range};
 use crate::show::method_code_words;
-use crate::space::{Facts, Space};
 use crate::who::{Comms, Person};
 use anyhow::Result;
 use serde::Serialize;

@@ -6,7 +6,7 @@ use crate::codes::{self, *};
 use crate::record::{u32_at, u64_at, Kind, Record, OBJECT_SIZE, RECORD_SIZE};
 
 /// The stand-in's pid, which no process of Linux has.
-pub const ABSENT: u32 = 0x00ff_ffff;
+pub const ABSENT: u32 = crate::who::NOT_RECORDED;
 const WINDOW: u64 = 4 << 20;
 /// Where its objects stand, by the handles under which they came.
 const FIRST_PTR: u64 = 1 << 32;

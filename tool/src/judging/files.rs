@@ -2,13 +2,18 @@
 //! A recording's files, as docs/FORMATS.md lays them out: what each thread asked of a device, and the kernel's own trace.
 use crate::record::{u32_at, u64_at};
 use anyhow::{bail, ensure, Context, Result};
+use std::ffi::OsStr;
 use std::fs;
+use std::io::Read;
 use std::path::Path;
+use std::time::SystemTime;
 
 pub const THREAD_MARK: &[u8; 8] = b"HPREC001";
 pub const TRACE_MARK: &[u8; 8] = b"HPTRACE1";
+const ORDER: &str = "order";
 const HEAD: usize = 64;
 const RECORD_HEAD: usize = 24;
+const WRITE_READ: u32 = 4;
 
 /// What stands in a file, with when it began and came back; None where it never did.
 #[derive(Debug)]
@@ -74,8 +79,11 @@ fn padded(size: usize) -> usize {
     size.saturating_add(7) & !7
 }
 
-fn write_read(body: &[u8]) -> Result<WriteRead> {
-    const FIXED: usize = 88;
+/// How many bytes a write and read has before its parts.
+const FIXED: usize = 88;
+
+/// Of one that never came back nothing is known that was read: its thread may have been killed while that was kept.
+fn write_read(body: &[u8], came_back: bool) -> Result<WriteRead> {
     ensure!(body.len() >= FIXED, "a write and read of {} bytes", body.len());
     let mut at = FIXED;
     let mut part = |place: usize| {
@@ -85,7 +93,8 @@ fn write_read(body: &[u8]) -> Result<WriteRead> {
         at = padded(end).min(body.len());
         Ok::<_, anyhow::Error>(found)
     };
-    let (written, sent, returned, received) = (part(64)?, part(68)?, part(72)?, part(76)?);
+    let (written, sent) = (part(64)?, part(68)?);
+    let (returned, received) = if came_back { (part(72)?, part(76)?) } else { (Vec::new(), Vec::new()) };
     Ok(WriteRead {
         file: opened(body),
         result: u32_at(body, 8) as i32,
@@ -118,11 +127,18 @@ fn call(kind: u32, begin: u64, end: u64, body: &[u8]) -> Result<Call> {
             result: u32_at(body, 16) as i32,
             error: u32_at(body, 20) as i32,
         },
-        4 => Asked::WriteRead(write_read(body)?),
+        WRITE_READ => Asked::WriteRead(write_read(body, end > 0)?),
         5 => Asked::Close { file: opened(body) },
         other => bail!("a record of kind {other}"),
     };
     Ok(Call { begin, end: Some(end).filter(|it| *it > 0), what })
+}
+
+/// Whether the last record of a thread is one that it was killed in: what it had read was counted in the record, and not in the file yet.
+fn is_cut_off(rest: &[u8], size: usize) -> bool {
+    let [written, sent] = [64, 68].map(|at| u32_at(rest, RECORD_HEAD + at) as usize);
+    let kept = (RECORD_HEAD + FIXED).saturating_add(padded(written)).saturating_add(sent);
+    u32_at(rest, 4) == WRITE_READ && size > rest.len() && kept == rest.len()
 }
 
 /// A thread's file, and how many bytes it has.
@@ -134,8 +150,12 @@ fn thread(bytes: &[u8]) -> Result<(Thread, usize)> {
     while at < used {
         let size = u32_at(bytes, at) as usize;
         let end = at.checked_add(size).filter(|it| *it <= used && size >= RECORD_HEAD);
+        let is_cut = end.is_none() && is_cut_off(&bytes[at..used], size);
+        let end = end.or(Some(used).filter(|_| is_cut));
         let record = &bytes[at..end.with_context(|| format!("byte {at}: a record of {size} bytes"))?];
+        let size = record.len();
         let (kind, begin, end) = (u32_at(record, 4), u64_at(record, 8), u64_at(record, 16));
+        let end = if is_cut { 0 } else { end };
         calls.push(call(kind, begin, end, &record[RECORD_HEAD..]).with_context(|| format!("byte {at}"))?);
         at += size;
     }
@@ -148,6 +168,42 @@ fn thread(bytes: &[u8]) -> Result<(Thread, usize)> {
         calls,
     };
     Ok((found, used))
+}
+
+/// Whether it is a recording: a folder in which a thread has left something, or one file with all of it.
+pub fn is_recording(path: &str) -> bool {
+    let begins = |path: &Path| {
+        let mut mark = [0; THREAD_MARK.len()];
+        let is_read = fs::File::open(path).and_then(|mut it| it.read_exact(&mut mark)).is_ok();
+        is_read && [THREAD_MARK, TRACE_MARK].contains(&&mark)
+    };
+    match fs::read_dir(path) {
+        Ok(names) => names.flatten().any(|it| it.path().is_file() && begins(&it.path())),
+        Err(_) => Path::new(path).is_file() && begins(Path::new(path)),
+    }
+}
+
+/// When the latest of its files was changed.
+fn changed(path: &str) -> Option<SystemTime> {
+    let of = |path: &Path| path.metadata().and_then(|it| it.modified()).ok();
+    match fs::read_dir(path) {
+        Ok(names) => names.flatten().filter(|it| !is_order(&it.file_name())).filter_map(|it| of(&it.path())).max(),
+        Err(_) => of(Path::new(path)),
+    }
+}
+
+/// Whether a file in a recording's folder is its order, or what lies beside that.
+fn is_order(name: &OsStr) -> bool {
+    Path::new(name).file_stem() == Some(OsStr::new(ORDER))
+}
+
+/// Where the order of a recording is laid for all that shows journals, and whether it is there, and of what is recorded now.
+pub fn order_of(path: &str) -> (String, bool) {
+    let folder = Path::new(path);
+    let order = if folder.is_dir() { folder.join(ORDER).display().to_string() } else { format!("{path}.{ORDER}") };
+    let made = Path::new(&order).metadata().and_then(|it| it.modified()).ok();
+    let is_new = made.zip(changed(path)).map_or(false, |(made, changed)| made >= changed);
+    (order, is_new)
 }
 
 impl Files {

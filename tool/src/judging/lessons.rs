@@ -176,7 +176,7 @@ impl<'a> Lessons<'a> {
     fn carries(&self, process: ProcessId, key: u64, number: u32) -> bool {
         let its = self.space.processes.get(process);
         let buffer = its.and_then(|it| it.buffers.iter().find(|it| it.1.key == key && key > 0));
-        buffer.map_or(false, |it| it.1.entries.iter().any(|it| it.2 == Some(number)))
+        buffer.map_or(false, |it| it.1.entries.iter().any(|it| it.receiver == Some(number)))
     }
 
     fn of_read(&mut self, track: usize, step: &Step) {

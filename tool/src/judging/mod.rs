@@ -4,6 +4,7 @@ mod absent;
 pub mod files;
 mod lessons;
 mod machine;
+mod matching;
 mod order;
 pub mod recorder;
 mod search;
@@ -11,13 +12,13 @@ mod steps;
 mod told;
 mod trace;
 
-use crate::arguments::Judge;
-
+use crate::arguments::{self, Judge};
 use crate::rules::{Way, Ways, WAYS};
-use anyhow::Result;
+use anyhow::{bail, Result};
+use nix::time::{clock_gettime, ClockId};
 use search::{Outcome, Search};
 use std::io::Write;
-use std::time::Instant;
+use std::time::Duration;
 use steps::Recording;
 
 /// Of how few steps a recording has to be for all its orders to be tried; how many steps are tried then, and how many orders of equally
@@ -25,6 +26,8 @@ use steps::Recording;
 const SMALL: usize = 1500;
 const EXHAUSTED: u64 = 300_000;
 const AT_ONCE: usize = 6000;
+/// Seconds of a processor for a recording, ..
+const SECONDS: f64 = 5.0;
 
 /// In which the driver does otherwise also to one thread; the freedom of the order does what the others would.
 fn plain_ways() -> Ways {
@@ -34,16 +37,40 @@ fn plain_ways() -> Ways {
 }
 
 /// The sets of switches that are tried, the likeliest first: each half that is possible makes the search longer.
-fn sets() -> [Ways; 6] {
+fn sets() -> [Ways; 7] {
     let with = |ways: &[Way]| ways.iter().fold(plain_ways(), |sum, it| sum.with(*it));
     [
         with(&[Way::Waiter, Way::Pieces]),
         with(&[Way::Waiter, Way::Pieces, Way::Released]),
+        with(&[Way::Pieces, Way::Released]),
         with(&[Way::Waiter, Way::Pieces, Way::Released, Way::Numbered]),
         with(&[Way::Pieces, Way::Numbered]),
         with(&[Way::Waiter, Way::Pieces, Way::Released, Way::Numbered, Way::Held]),
         with(&[Way::Waiter]),
     ]
+}
+
+/// .. and as many more for each so many steps that it has.
+const OF_SECONDS: usize = 10_000;
+/// Which part of them is left for finding out which differences aren't needed.
+const LEFT_OUT: f64 = 0.25;
+
+/// The time that the program has had of a processor: a busy machine doesn't make it end sooner.
+fn worked() -> Duration {
+    clock_gettime(ClockId::CLOCK_PROCESS_CPUTIME_ID).map_or(Duration::ZERO, Duration::from)
+}
+
+/// When a search gives up: after so many tries, and at a time of the processor.
+#[derive(Clone, Copy, Debug)]
+pub struct Bound {
+    tries: u64,
+    until: Duration,
+}
+
+impl Bound {
+    fn is_late(&self) -> bool {
+        worked() >= self.until
+    }
 }
 
 /// What a recording came to.
@@ -52,6 +79,8 @@ struct Verdict {
     ways: Ways,
     outcome: Outcome,
     tries: u64,
+    /// Whether all its switches are needed, as far as is known.
+    is_least: bool,
 }
 
 impl Verdict {
@@ -90,13 +119,20 @@ impl Verdict {
 struct Trial<'a> {
     given: &'a Judge,
     whole: Recording,
+    /// How much of the processor's time there is in all.
+    seconds: f64,
 }
 
 impl Trial<'_> {
-    fn sought(&self, ways: Ways, limit: u64) -> Verdict {
+    /// So many tries at most, up to a part of the time.
+    fn bound(&self, tries: u64, part: f64) -> Bound {
+        Bound { tries: tries.min(self.given.tries), until: Duration::from_secs_f64(self.seconds * part) }
+    }
+
+    fn sought(&self, ways: Ways, bound: Bound) -> Verdict {
         let recording = self.whole.taken_apart(ways);
-        let outcome = Search::new(&recording, ways, limit.min(self.given.tries)).run();
-        Verdict { tries: outcome.tries, recording, ways, outcome }
+        let outcome = Search::new(&recording, ways, bound).run();
+        Verdict { tries: outcome.tries, recording, ways, outcome, is_least: true }
     }
 
     /// Tries all orders there are with each of some sets of switches, where they aren't too many: so it is known where there is none.
@@ -107,9 +143,9 @@ impl Trial<'_> {
                 return;
             }
             let recording = self.whole.taken_apart(ways);
-            let outcome = Search::new(&recording, ways, EXHAUSTED.min(self.given.tries)).exhaust(AT_ONCE);
+            let outcome = Search::new(&recording, ways, self.bound(EXHAUSTED, 1.0)).exhaust(AT_ONCE);
             are_none &= outcome.is_none;
-            found.or(Verdict { tries: outcome.tries, recording, ways, outcome });
+            found.or(Verdict { tries: outcome.tries, recording, ways, outcome, is_least: true });
         }
         // Where others took part, another stand-in may do.
         found.outcome.is_none = are_none && self.whole.is_whole();
@@ -120,7 +156,7 @@ impl Trial<'_> {
             Some(names) => {
                 let ways = Ways::named(names.split(',').filter(|it| !it.is_empty()))
                     .map_err(|name| anyhow::anyhow!("{name} is none of the differences in docs/DIFFERENCES.md"))?;
-                (self.sought(ways, self.given.tries), vec![ways])
+                (self.sought(ways, self.bound(self.given.tries, 1.0)), vec![ways])
             }
             None => (self.verdict_of_all(), std::iter::once(Ways::NONE).chain(sets()).collect()),
         };
@@ -139,10 +175,11 @@ impl Trial<'_> {
         let many = self.given.tries / 6;
         // What has no order for want of a difference is seldom found by more tries, so the fullest set is the first to have them.
         let again = sets().into_iter().rev().chain(Some(Ways::NONE)).map(|it| (it, many));
-        let mut found = self.sought(Ways::NONE, few);
+        let mut found = self.sought(Ways::NONE, self.bound(few, 1.0));
         for (ways, limit) in sets().into_iter().map(|it| (it, few)).chain(again) {
-            if found.outcome.order.is_none() {
-                found.or(self.sought(ways, limit));
+            let bound = self.bound(limit, 1.0 - LEFT_OUT);
+            if found.outcome.order.is_none() && !bound.is_late() {
+                found.or(self.sought(ways, bound));
             }
         }
         found
@@ -163,7 +200,12 @@ impl Trial<'_> {
         for left in std::iter::once(found.ways.minus(often)).chain(each) {
             let ways = found.ways.minus(left);
             if ways != found.ways && !found.holds_with(&self.whole, ways) {
-                found.or(self.sought(ways, limit));
+                let bound = self.bound(limit, 1.0);
+                let is_least = found.is_least && !bound.is_late();
+                if is_least {
+                    found.or(self.sought(ways, bound));
+                }
+                found.is_least = is_least && !bound.is_late();
             }
         }
     }
@@ -176,7 +218,7 @@ fn write_order(given: &Judge, found: &Verdict, order: &[u32], out: &mut Vec<u8>)
         None => return Ok(()),
     };
     let written = order::Written::of(&found.recording, found.ways, order)?;
-    written.save(&found.recording, path)?;
+    written.save(&found.recording, found.ways, path)?;
     writeln!(out, "the order is written to {path}, {} entries", written.count)?;
     if found.ways == Ways::NONE {
         match crate::judge::first_other(path) {
@@ -206,24 +248,61 @@ fn tell_absent(recording: &Recording, is_found: bool, out: &mut Vec<u8>) -> Resu
     Ok(())
 }
 
+/// The journal that a recording is shown by, where it is one: its order, which is sought where it isn't there. None of another file.
+pub fn shown_by(path: &str) -> Result<Option<String>> {
+    if path == "-" || !files::is_recording(path) {
+        return Ok(None);
+    }
+    let (order, is_new) = files::order_of(path);
+    if is_new {
+        return Ok(Some(order));
+    }
+    let given = Judge {
+        recording: path.into(),
+        device: None,
+        journal: Some(order.clone()),
+        ways: None,
+        tries: arguments::TRIES,
+        seconds: None,
+        most: 0,
+    };
+    let mut told = Vec::new();
+    let status = judge(&given, &mut told)?;
+    let told = String::from_utf8_lossy(&told);
+    let verdict = told.lines().next().unwrap_or_default();
+    if status > 0 {
+        bail!(
+            "{path}: {verdict}; without an order nothing is shown of it: hullpippin judge {path} tells where that ends"
+        );
+    }
+    eprintln!("hullpippin: {path}: {verdict}; its order is in {order}");
+    Ok(Some(order))
+}
+
 /// Judges a recording: the status with which the program ends.
 pub fn judge(given: &Judge, out: &mut Vec<u8>) -> Result<u8> {
-    let begin = Instant::now();
     let whole = Recording::read(&given.recording, given.device.as_deref())?;
-    let found = Trial { given, whole }.verdict()?;
-    let seconds = begin.elapsed().as_secs_f64();
-    let Verdict { recording, ways, outcome, tries } = &found;
+    let seconds = given.seconds.unwrap_or(SECONDS) * (1 + whole.size() / OF_SECONDS) as f64;
+    let found = Trial { given, whole, seconds }.verdict()?;
+    let Verdict { recording, ways, outcome, tries, is_least } = &found;
     let (processes, threads) = (recording.processes.len(), recording.threads());
     write!(out, "{processes} processes, {threads} threads, {} steps: ", recording.size())?;
     match &outcome.order {
         Some(_) if *ways == Ways::NONE => writeln!(out, "lawful")?,
-        Some(_) => writeln!(out, "lawful, with {ways}")?,
+        Some(_) if *is_least => writeln!(out, "lawful, with {ways}")?,
+        Some(_) => writeln!(out, "lawful, with {ways} (not all of them may be needed: there was no time left to see)")?,
         None if outcome.is_none => {
             writeln!(out, "unlawful: no order goes beyond {} steps, and all were tried", outcome.most)?
         }
         None => writeln!(out, "unknown: no order was found beyond {} steps", outcome.most)?,
     }
-    writeln!(out, "{tries} tries, {} times back, {} lessons, {seconds:.1} s", outcome.backs, outcome.lessons)?;
+    writeln!(
+        out,
+        "{tries} tries, {} times back, {} lessons, {:.1} s",
+        outcome.backs,
+        outcome.lessons,
+        worked().as_secs_f64()
+    )?;
     for (what, count) in &recording.left_out {
         writeln!(out, "left out: {what}, {count} times")?;
     }

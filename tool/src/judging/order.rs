@@ -4,6 +4,7 @@ use super::machine::{Came, Machine};
 use super::steps::*;
 use crate::codes::Payload;
 use crate::rules::{Seat, Space, Told, Ways};
+use crate::who::NOT_RECORDED;
 use anyhow::{Context, Result};
 use std::fmt::Write as _;
 use std::fs;
@@ -155,8 +156,10 @@ impl Written {
     fn name(&mut self, machine: &Machine<'_>, track: usize, step: &Step) {
         let its = &machine.recording.tracks[track];
         let pid = machine.recording.processes[its.process].pid;
+        // Of a thread without a number there is none beside the journal either.
+        let tid = its.tid.map(|it| if pid == NOT_RECORDED { 0 } else { it });
         let place = self.count;
-        let _ = match (&step.act, its.tid) {
+        let _ = match (&step.act, tid) {
             (Act::Attach, Some(tid)) => writeln!(self.who, "{place} {track} {pid} {tid} {}", spelled(&its.name)),
             (Act::Attach, None) => writeln!(self.who, "{place} {track} {pid} {pid} {}", spelled(&its.name)),
             (Act::Open, _) => writeln!(self.who, "{place} {track} {pid} {pid} (process)"),
@@ -192,7 +195,7 @@ impl Written {
         Ok(written)
     }
 
-    pub fn save(&self, recording: &Recording, path: &str) -> Result<()> {
+    pub fn save(&self, recording: &Recording, ways: Ways, path: &str) -> Result<()> {
         let mut journal = b"BNDJ0003".to_vec();
         journal.extend((recording.tracks.len().max(LEAST_SEATS) as u32).to_le_bytes());
         journal.extend(self.count.to_le_bytes());
@@ -200,6 +203,7 @@ impl Written {
         fs::write(path, journal).with_context(|| path.to_string())?;
         let times = [&b"HPTIMES1"[..], &recording.ahead.to_le_bytes(), &self.times].concat();
         fs::write(format!("{path}.times"), times)?;
+        crate::beside::put_ways(path, ways)?;
         let device = recording.processes.first().map_or("", |it| &it.device);
         fs::write(format!("{path}.who"), format!("HPWHO 1 {}\n{}", spelled(device), self.who))?;
         Ok(())

@@ -3,7 +3,10 @@
 //! can be switched on.
 use super::files::Files;
 use crate::arguments::Record;
+use crate::kernel::tracefs::{end_forgotten, Guard};
+use crate::live::program::status_of;
 use anyhow::{bail, ensure, Context, Result};
+use nix::sys::signal::{sigaction, SaFlags, SigAction, SigHandler, SigSet, Signal};
 use std::env;
 use std::fs;
 use std::io::Write;
@@ -31,14 +34,19 @@ const EVENTS: [&str; 13] = [
     "transaction_buffer_release",
 ];
 
-/// An instance of the kernel's tracing of our own: nobody else's is changed.
-struct Tracing(PathBuf);
+/// An instance of the kernel's tracing of our own: nobody else's is changed. It goes also where this process is killed.
+struct Tracing {
+    folder: PathBuf,
+    _guard: Guard,
+}
 
 impl Tracing {
     fn begin() -> Result<Tracing> {
+        end_forgotten(Path::new(INSTANCES));
         let folder = Path::new(INSTANCES).join(format!("hullpippin-{}", std::process::id()));
+        let guard = Guard::start(&folder)?;
         fs::create_dir(&folder).with_context(|| folder.display().to_string())?;
-        let tracing = Tracing(folder);
+        let tracing = Tracing { folder, _guard: guard };
         tracing.write("trace_clock", "mono")?;
         tracing.write("buffer_size_kb", BUFFER)?;
         for event in EVENTS {
@@ -48,18 +56,12 @@ impl Tracing {
     }
 
     fn write(&self, name: &str, word: &str) -> Result<()> {
-        fs::write(self.0.join(name), word).with_context(|| format!("the kernel's tracing has no {name}"))
+        fs::write(self.folder.join(name), word).with_context(|| format!("the kernel's tracing has no {name}"))
     }
 
     fn save(&self, to: &Path) -> Result<()> {
         self.write("tracing_on", "0")?;
-        fs::copy(self.0.join("trace"), to).map(|_| ()).context("the trace can't be copied")
-    }
-}
-
-impl Drop for Tracing {
-    fn drop(&mut self) {
-        let _ = fs::remove_dir(&self.0);
+        fs::copy(self.folder.join("trace"), to).map(|_| ()).context("the trace can't be copied")
     }
 }
 
@@ -94,6 +96,21 @@ fn command(library: &str, words: &[String]) -> Command {
     command
 }
 
+extern "C" fn nothing(_: i32) {}
+
+/// What a terminal sends is for the program too, which may wait for ever: this process goes on and tells what was recorded. The program
+/// does with it what it would, also where it was ignored before.
+fn outlive(signal: Signal) -> Result<()> {
+    let ours = SigAction::new(SigHandler::Handler(nothing), SaFlags::SA_RESTART, SigSet::empty());
+    // SAFETY: the handler does nothing.
+    let before = unsafe { sigaction(signal, &ours) }?;
+    if before.handler() == SigHandler::SigIgn {
+        // SAFETY: this is what stood there before.
+        unsafe { sigaction(signal, &before) }?;
+    }
+    Ok(())
+}
+
 fn begin_folder(path: &Path) -> Result<()> {
     match fs::create_dir(path) {
         Ok(()) => Ok(()),
@@ -121,7 +138,7 @@ fn tell(folder: &str, out: &mut Vec<u8>) -> Result<()> {
     if missed > 0 {
         writeln!(out, "{missed} calls weren't kept: a thread's file was full, or a signal came in between")?;
     }
-    writeln!(out, "next: hullpippin judge {folder} --journal order")?;
+    writeln!(out, "next: hullpippin judge {folder}; then calls, show, leaks, holders, stats, diagram of {folder} too")?;
     Ok(())
 }
 
@@ -134,10 +151,11 @@ pub fn record(given: &Record, out: &mut Vec<u8>) -> Result<u8> {
     let tracing = if given.no_trace { None } else { Tracing::begin().ok() };
     let mut command = command(&library, &given.program);
     command.env("HULLPIPPIN_RECORD", &folder);
+    [Signal::SIGINT, Signal::SIGQUIT].into_iter().try_for_each(outlive)?;
     let status: ExitStatus = command.status().with_context(|| given.program[0].clone())?;
     if let Some(tracing) = tracing {
         tracing.save(&folder.join("trace"))?;
     }
     tell(&given.into, out)?;
-    Ok(status.code().map_or(1, |it| it as u8))
+    Ok(status_of(status))
 }

@@ -8,6 +8,7 @@
 use super::lessons::Lessons;
 use super::machine::{is_made, Machine};
 use super::steps::*;
+use super::Bound;
 use crate::rules::{Space, Ways};
 use std::collections::{HashMap, HashSet};
 
@@ -69,7 +70,7 @@ pub struct Search<'a> {
     /// The first level whose nodes are still there.
     first: usize,
     tries: u64,
-    limit: u64,
+    bound: Bound,
     stuck: Vec<String>,
     most: usize,
     /// What was learned: which steps have to wait for which; and what was learned wrongly.
@@ -79,7 +80,7 @@ pub struct Search<'a> {
 }
 
 impl<'a> Search<'a> {
-    pub fn new(recording: &'a Recording, ways: Ways, limit: u64) -> Search<'a> {
+    pub fn new(recording: &'a Recording, ways: Ways, bound: Bound) -> Search<'a> {
         let root = Node { space: Space::new(ways), done: vec![0; recording.tracks.len()], cost: 0 };
         Search {
             machine: Machine::new(recording),
@@ -87,7 +88,7 @@ impl<'a> Search<'a> {
             origins: vec![Vec::new()],
             first: 0,
             tries: 0,
-            limit,
+            bound,
             stuck: Vec::new(),
             most: 0,
             learned: HashMap::new(),
@@ -177,6 +178,10 @@ impl<'a> Search<'a> {
             self.levels[self.first] = Vec::new();
             self.first += 1;
         }
+    }
+
+    fn is_over(&self) -> bool {
+        self.tries > self.bound.tries || self.bound.is_late()
     }
 
     fn waits(&self, node: &Node, number: u64) -> bool {
@@ -296,7 +301,7 @@ impl<'a> Search<'a> {
                 return self.outcome(Some(at), backs);
             }
             if self.goes_on(&mut pace) {
-                if pace.width > 1 && self.tries > self.limit {
+                if pace.width > 1 && self.is_over() {
                     return self.outcome(None, backs);
                 }
                 continue;
@@ -304,7 +309,7 @@ impl<'a> Search<'a> {
             // No order goes on from here.
             self.tell_stuck();
             backs += 1;
-            let learns = pace.width == 1 && self.tries <= self.limit && (self.learn() || self.unlearn());
+            let learns = pace.width == 1 && !self.is_over() && (self.learn() || self.unlearn());
             if !learns && !self.goes_back(&mut pace) {
                 return self.outcome(None, backs);
             }
@@ -345,7 +350,7 @@ impl<'a> Search<'a> {
         let to = end.saturating_sub(back).max(self.first);
         let is_last = width > MOST_WIDTH && (to == self.first || back > KEPT) || end == 0;
         pace.width = width.min(MOST_WIDTH);
-        if is_last || self.tries > self.limit {
+        if is_last || self.is_over() {
             return false;
         }
         pace.goal = pace.last_end + BACK;
@@ -363,7 +368,7 @@ impl<'a> Search<'a> {
                 return self.outcome(Some(at), 0);
             }
             let is_over = level.is_empty();
-            if is_over || level.len() > most || self.tries > self.limit {
+            if is_over || level.len() > most || self.is_over() {
                 return Outcome { is_none: is_over, ..self.outcome(None, 0) };
             }
             let (nodes, origins) = self.widen(usize::MAX);

@@ -3,7 +3,7 @@
 use super::files::{Asked, Call, Files, Opened, WriteRead};
 use super::trace::{self, Trace, Traced};
 use crate::codes::{self, *};
-use crate::record::{u32_at, u64_at, Record, OBJECT_SIZE, RECORD_SIZE};
+use crate::record::{u32_at, u64_at, Record, RECORD_SIZE};
 use crate::rules::{Way, Ways, PID};
 use anyhow::{ensure, Result};
 use std::collections::{BTreeMap, HashMap, HashSet};
@@ -552,48 +552,6 @@ impl Recording {
         }
     }
 
-    /// Where no trace tells which call a read has got: the one that alone fits, by what it says and when it can have been read.
-    fn match_calls(&mut self) {
-        if self.is_traced {
-            return;
-        }
-        let mut reads: HashMap<Likeness, Vec<(u64, u64, usize, usize)>> = HashMap::new();
-        for (number, track) in self.tracks.iter().enumerate() {
-            for (index, step) in track.steps.iter().enumerate() {
-                if let (Wanted::Got(got), Some(likeness)) = (&step.wanted, likeness_read(step)) {
-                    if got.kinds.last().map_or(false, |it| it.0 == BR_TRANSACTION) {
-                        reads.entry(likeness).or_default().push((step.begin, step.end, number, index));
-                    }
-                }
-            }
-        }
-        let mut pairs = Vec::new();
-        let mut claims: HashMap<(usize, usize), u32> = HashMap::new();
-        for (number, track) in self.tracks.iter().enumerate() {
-            let pid = self.processes[track.process].pid;
-            for (index, step) in track.steps.iter().enumerate() {
-                let likeness = match likeness_sent(step, pid) {
-                    Some(likeness) => likeness,
-                    None => continue,
-                };
-                let until = if likeness.1 == 0 { NEVER } else { reply_after(&track.steps, index) };
-                let all = reads.get(&likeness).map_or(&[][..], |it| it);
-                let fits: Vec<_> =
-                    all.iter().filter(|it| it.1 >= step.begin && it.0 <= until && it.2 != number).collect();
-                fits.iter().for_each(|it| *claims.entry((it.2, it.3)).or_insert(0) += 1);
-                if let [only] = fits[..] {
-                    pairs.push((number, index, only.2, only.3));
-                }
-            }
-        }
-        pairs.retain(|it| claims.get(&(it.2, it.3)) == Some(&1));
-        for (place, (sender, sent, reader, read)) in pairs.into_iter().enumerate() {
-            let id = Some(1 << 62 | place as u64);
-            self.tracks[sender].steps[sent].id = id;
-            self.tracks[reader].steps[read].id = id;
-        }
-    }
-
     /// Each process opens by itself, and ends some time after the last that is known of it.
     fn add_processes(&mut self) {
         for index in 0..self.processes.len() {
@@ -717,48 +675,6 @@ fn take_step_apart(step: Step, ways: Ways, to: &mut Vec<Step>) {
         }
         _ => to.push(step),
     }
-}
-
-/// By what a call is known again: code, sender's pid or 0, flags, and its parcel without objects.
-type Likeness = (u32, u32, u32, Vec<u8>);
-
-fn likeness(record: &Record, pid: u32, data: &[u8], offsets: &[u8]) -> Likeness {
-    let mut known = data.to_vec();
-    for at in offsets.chunks_exact(8).filter_map(|it| usize::try_from(u64_at(it, 0)).ok()) {
-        let end = at.saturating_add(OBJECT_SIZE).min(known.len());
-        if let Some(object) = known.get_mut(at..end) {
-            object.fill(0);
-        }
-    }
-    known.extend(offsets);
-    (record.code, pid, record.flags, known)
-}
-
-fn likeness_read(step: &Step) -> Option<Likeness> {
-    let got = match &step.wanted {
-        Wanted::Got(got) => got,
-        _ => return None,
-    };
-    let record = Record::read(got.stream.get(got.stream.len().checked_sub(RECORD_SIZE)?..)?);
-    Some(likeness(&record, record.sender_pid as u32, &got.data, &got.offsets))
-}
-
-fn likeness_sent(step: &Step, pid: u32) -> Option<Likeness> {
-    let command = match &step.act {
-        Act::Command(command) if command.message.code.number == BC_TRANSACTION => command,
-        _ => return None,
-    };
-    let (record, (data, offsets)) = (command.message.record()?, command.parcel.as_ref()?);
-    Some(likeness(record, if record.is_one_way() { 0 } else { pid }, data, offsets))
-}
-
-/// When the reply to a call was read at the latest.
-fn reply_after(steps: &[Step], call: usize) -> u64 {
-    let is_end = |step: &&Step| match &step.wanted {
-        Wanted::Got(got) => got.kinds.iter().any(|it| matches!(it.0, BR_REPLY | BR_DEAD_REPLY | BR_FAILED_REPLY)),
-        _ => false,
-    };
-    steps[call..].iter().find(is_end).map_or(NEVER, |it| it.end)
 }
 
 fn most_opened(files: &Files) -> Option<String> {

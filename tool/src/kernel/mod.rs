@@ -19,7 +19,7 @@ pub mod trace;
 pub mod tracefs;
 mod verbs;
 
-use crate::space::ObjectId;
+use crate::following::ObjectId;
 use anyhow::{bail, Result};
 use format::Format;
 use trace::Trace;

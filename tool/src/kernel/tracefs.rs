@@ -62,7 +62,7 @@ fn end(instance: &Path) -> io::Result<()> {
 }
 
 /// Ends instances whose makers have ended, both the one that read and the one that saw to it.
-fn end_forgotten(instances: &Path) {
+pub fn end_forgotten(instances: &Path) {
     for entry in fs::read_dir(instances).into_iter().flatten().flatten() {
         let name = entry.file_name().to_string_lossy().into_owned();
         let pid = name.strip_prefix(PREFIX).and_then(|it| it.parse::<u32>().ok());
@@ -91,13 +91,13 @@ pub fn guard(instance: &Path) -> Result<()> {
 }
 
 /// The second process.
-struct Guard {
+pub struct Guard {
     child: Child,
     held: Option<ChildStdin>,
 }
 
 impl Guard {
-    fn start(instance: &Path) -> Result<Guard> {
+    pub fn start(instance: &Path) -> Result<Guard> {
         let mut command = Command::new("/proc/self/exe");
         command.arg("kernel-guard").arg(instance).stdin(Stdio::piped()).stdout(Stdio::piped());
         let mut child = command.spawn().context("the process that ends the tracing")?;

@@ -3,7 +3,7 @@
 pub mod calls;
 mod daemon;
 pub mod kernel;
-mod program;
+pub mod program;
 mod ring;
 mod shares;
 mod slot;

@@ -7,32 +7,51 @@ use std::rc::Rc;
 /// The pointer of a window's first byte.
 pub const FIRST_POINTER: u64 = 65536;
 
-/// An object that a buffer holds: how strongly, and the receiver's number for it; None where it is the receiver's own.
-pub type Entry = (ObjectId, usize, Option<u32>);
+/// An object that a buffer holds.
+#[derive(Clone, Copy, Debug, PartialEq, Eq, Serialize, Deserialize)]
+pub struct Entry {
+    pub object: ObjectId,
+    pub strength: usize,
+    /// The numbers that its sender and its receiver have for it; None where it is their own.
+    pub sender: Option<u32>,
+    pub receiver: Option<u32>,
+}
 
 /// A parcel in its receiver's window.
-#[derive(Clone, Debug, PartialEq, Eq)]
+#[derive(Clone, Debug, PartialEq, Eq, Serialize, Deserialize)]
 pub struct Buffer {
     pub sender: ProcessId,
     pub sender_euid: u32,
+    pub sender_pid: u32,
+    pub sender_seat: Seat,
     pub code: u32,
     pub flags: u32,
     /// As the receiver sees them.
+    #[serde(skip, default = "no_bytes")]
     pub data: Rc<[u8]>,
+    #[serde(skip, default = "no_bytes")]
     pub offsets: Rc<[u8]>,
+    /// How many bytes its data has, and how many it takes of the window.
+    pub size: u64,
     pub needed: u64,
     pub is_one_way: bool,
     pub is_handed: bool,
     pub is_suspect: bool,
     pub target: Option<ObjectId>,
     pub frame: Option<FrameId>,
-    pub entries: Rc<[Entry]>,
+    /// Of a reply, the call that it answers.
+    pub answers: Option<FrameId>,
+    pub entries: Vec<Entry>,
     /// The step that sent it.
     pub sent: u64,
     /// What its reader calls it; 0 before that, or where it has no word for it.
     pub key: u64,
     /// The driver's number of the transaction, where it is known; else 0.
     pub id: u64,
+}
+
+fn no_bytes() -> Rc<[u8]> {
+    Rc::new([])
 }
 
 /// A parcel as it is written.
@@ -79,11 +98,53 @@ fn walk(data: &[u8], offsets: &[u8]) -> (Vec<Flat>, Option<u8>) {
     (found, None)
 }
 
+/// An object as the receiver sees it: by its number, or where it is its own by ptr and cookie.
+fn put_seen(data: &mut [u8], flat: &Flat, strength: usize, seen: Result<u32, (u64, u64)>) {
+    let is_strong = strength == STRONG;
+    match seen {
+        Ok(number) => {
+            let kind = if is_strong { Kind::Handle } else { Kind::WeakHandle };
+            put_flat(data, flat.offset, kind, flat.flags, u64::from(number), 0);
+        }
+        Err((ptr, cookie)) => {
+            let kind = if is_strong { Kind::Binder } else { Kind::WeakBinder };
+            put_flat(data, flat.offset, kind, flat.flags, ptr, cookie);
+        }
+    }
+}
+
 fn put_flat(data: &mut [u8], offset: usize, kind: Kind, flags: u32, value: u64, cookie: u64) {
     data[offset..offset + 4].copy_from_slice(&kind.number().to_le_bytes());
     data[offset + 4..offset + 8].copy_from_slice(&flags.to_le_bytes());
     data[offset + 8..offset + 16].copy_from_slice(&value.to_le_bytes());
     data[offset + 16..offset + 24].copy_from_slice(&cookie.to_le_bytes());
+}
+
+impl Process {
+    /// How many bytes of its window all buffers take, and those of one-way calls.
+    pub fn used(&self) -> u64 {
+        self.buffers.iter().fold(0, |sum, it| sum.saturating_add(it.1.needed))
+    }
+
+    pub fn one_way(&self) -> u64 {
+        self.buffers.iter().filter(|it| it.1.is_one_way).fold(0, |sum, it| sum.saturating_add(it.1.needed))
+    }
+
+    /// Where its window has holes, and how large each is.
+    fn holes(&self) -> impl Iterator<Item = (u64, u64)> + '_ {
+        let mut at = 0;
+        let ends = self.buffers.iter().map(|(place, it)| (place, place.saturating_add(it.needed)));
+        ends.chain(Some((self.window, 0))).map(move |(place, end)| {
+            let hole = (at, place.saturating_sub(at));
+            at = end;
+            hole
+        })
+    }
+
+    /// How many bytes the largest hole has, and so the largest buffer that fits in.
+    pub fn largest_hole(&self) -> u64 {
+        self.holes().map(|it| it.1).max().unwrap_or(0)
+    }
 }
 
 impl Space {
@@ -138,19 +199,12 @@ impl Space {
 
     /// Where a buffer may start: the least place by the rules, in the smallest hole by the driver.
     fn place_for(&self, process: &Process, needed: u64) -> Option<u64> {
-        let (mut at, mut best): (u64, Option<(u64, u64)>) = (0, None);
-        let ends = process.buffers.iter().map(|(place, it)| (place, place + it.needed));
-        for (place, end) in ends.chain(Some((process.window, 0))) {
-            let hole = place - at;
-            if hole >= needed {
-                if !self.does(Way::Fit) {
-                    return Some(at);
-                }
-                best = best.min(Some((hole, at))).or(Some((hole, at)));
-            }
-            at = end;
+        let mut holes = process.holes().filter(|it| it.1 >= needed);
+        if self.does(Way::Fit) {
+            holes.min_by_key(|it| (it.1, it.0)).map(|it| it.0)
+        } else {
+            holes.next().map(|it| it.0)
         }
-        best.map(|it| it.1)
     }
 
     /// Puts a parcel into the receiver's window: the cause why not, or the buffer.
@@ -169,7 +223,7 @@ impl Space {
         let (found, unsendable) = self.resolve(sender, &flats);
         let cause = fault.or(unsendable);
         let its = self.processes.get(receiver).ok_or(16u8)?;
-        let spent: u64 = its.buffers.iter().filter(|it| it.1.is_one_way).map(|it| it.1.needed).sum();
+        let spent = if is_one_way { its.one_way() } else { 0 };
         let place = match self.place_for(its, needed) {
             None => return Err(cause.unwrap_or(13)),
             Some(_) if is_one_way && spent + needed > its.window / 2 => return Err(cause.unwrap_or(14)),
@@ -179,8 +233,8 @@ impl Space {
             return Err(cause);
         }
         let buffer = (receiver, place);
-        self.add_buffer(buffer, sender, sent, is_one_way, target);
-        self.carry(seat, buffer, &flats, &found);
+        self.add_buffer(buffer, seat, sent, is_one_way, target);
+        self.carry(seat, buffer, sent, &flats, &found);
         if let Some(cause) = cause {
             // The driver has sent what stands before the faulty object, and takes it back.
             self.end_buffer(buffer);
@@ -194,26 +248,31 @@ impl Space {
     fn add_buffer(
         &mut self,
         buffer: BufferId,
-        sender: ProcessId,
+        seat: Seat,
         sent: &Sent<'_>,
         is_one_way: bool,
         target: Option<ObjectId>,
     ) {
-        let (data, offsets) = sent.parcel.unwrap_or((&[], &[]));
+        let sender = self.threads.get(seat).map_or(0, |it| it.process);
+        let its = self.processes.get(sender);
         let new = Buffer {
             sender,
-            sender_euid: self.processes.get(sender).map_or(0, |it| it.euid),
+            sender_euid: its.map_or(0, |it| it.euid),
+            sender_pid: its.map_or(0, |it| it.pid),
+            sender_seat: seat,
             code: sent.record.code,
             flags: sent.record.flags,
-            data: data.into(),
-            offsets: offsets.into(),
+            data: no_bytes(),
+            offsets: no_bytes(),
+            size: sent.record.data_size,
             needed: needed(sent.record.data_size, sent.record.offsets_size),
             is_one_way,
             is_handed: false,
             is_suspect: false,
             target,
             frame: None,
-            entries: Rc::new([]),
+            answers: None,
+            entries: Vec::new(),
             sent: self.current,
             key: 0,
             id: self.transaction,
@@ -226,11 +285,10 @@ impl Space {
     }
 
     /// A buffer's references, and its data as the receiver sees them.
-    fn carry(&mut self, seat: Seat, buffer: BufferId, flats: &[Flat], found: &[(Kind, ObjectId)]) {
-        let (mut data, target) = match self.buffer(buffer) {
-            Some(it) => (it.data.to_vec(), it.target),
-            None => return,
-        };
+    fn carry(&mut self, seat: Seat, buffer: BufferId, sent: &Sent<'_>, flats: &[Flat], found: &[(Kind, ObjectId)]) {
+        let target = self.buffer(buffer).and_then(|it| it.target);
+        let (data, offsets) = sent.parcel.filter(|_| self.keeps_bytes()).unwrap_or((&[], &[]));
+        let mut data = data.to_vec();
         let by = By(Some(self.current));
         if let Some(it) = target.and_then(|it| self.objects.get_mut(it)) {
             it.local[STRONG] += 1;
@@ -240,22 +298,17 @@ impl Space {
         for (flat, (kind, object)) in flats.iter().zip(found) {
             let strength = usize::from(kind.is_strong());
             let handle = self.carry_one(seat, buffer.0, flat, *object, strength);
-            let cookie = self.objects.get(*object).map_or(0, |it| it.cookie);
-            match handle {
-                None => {
-                    let kind = if strength == STRONG { Kind::Binder } else { Kind::WeakBinder };
-                    put_flat(&mut data, flat.offset, kind, flat.flags, object.1, cookie);
-                }
-                Some(number) => {
-                    let kind = if strength == STRONG { Kind::Handle } else { Kind::WeakHandle };
-                    put_flat(&mut data, flat.offset, kind, flat.flags, u64::from(number), 0);
-                }
+            if self.keeps_bytes() {
+                let cookie = self.objects.get(*object).map_or(0, |it| it.cookie);
+                put_seen(&mut data, flat, strength, handle.ok_or((object.1, cookie)));
             }
-            entries.push((*object, strength, handle));
+            let sender = flat.kind.is_handle().then_some(flat.value as u32);
+            entries.push(Entry { object: *object, strength, sender, receiver: handle });
         }
         if let Some(it) = self.buffer_mut(buffer) {
             it.data = data.into();
-            it.entries = entries.into();
+            it.offsets = offsets.into();
+            it.entries = entries;
         }
     }
 
@@ -320,18 +373,18 @@ impl Space {
             self.end_turn(target, buffer);
             self.local_down(target, STRONG);
         }
-        for (object, strength, handle) in its.entries.iter() {
-            match handle {
+        for Entry { object, strength, receiver, .. } in its.entries.iter().copied() {
+            match receiver {
                 None => {
-                    self.local_down(*object, *strength);
-                    self.lost(*object, WEAK);
+                    self.local_down(object, strength);
+                    self.lost(object, WEAK);
                 }
                 Some(handle) if self.does(Way::Counts) => {
-                    if self.name(buffer.0, *handle).map_or(false, |it| it.count(*strength) > 0) {
-                        self.count_down(buffer.0, *handle, *strength, Ground::Asked);
+                    if self.name(buffer.0, handle).map_or(false, |it| it.count(strength) > 0) {
+                        self.count_down(buffer.0, handle, strength, Ground::Asked);
                     }
                 }
-                Some(handle) => self.count_down(buffer.0, *handle, *strength, Ground::Carried),
+                Some(handle) => self.count_down(buffer.0, handle, strength, Ground::Carried),
             }
         }
     }

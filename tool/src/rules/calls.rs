@@ -29,16 +29,16 @@ impl Space {
 
     /// Closes calls whose server is gone and that have no open child, the oldest first.
     pub(super) fn settle(&mut self) {
-        loop {
+        while self.orphans > 0 {
             let is_parent = |id: FrameId| self.frames.iter().any(|it| it.1.parent == Some(id));
             let gone = self.frames.iter().filter(|it| it.1.server == Server::Gone && !is_parent(it.0));
             let (id, caller) = match gone.min_by_key(|it| it.1.made) {
                 Some((id, frame)) => (id, frame.caller),
                 None => return,
             };
-            self.frames.remove(id);
+            self.close(id);
             if let Some(seat) = caller {
-                self.owe(seat, Item::Verdict(BR_DEAD_REPLY), false);
+                self.owe_verdict(seat, BR_DEAD_REPLY, id);
             }
         }
     }
@@ -115,9 +115,21 @@ impl Space {
         Half { what, delivered }
     }
 
+    /// The call that a thread serves, which its reply answers, and who has made it.
+    pub fn served(&self, seat: Seat) -> Option<(FrameId, Option<Seat>)> {
+        self.innermost(seat).filter(|it| it.1.server == Server::Seat(seat)).map(|it| (it.0, it.1.caller))
+    }
+
+    /// A call is open no longer.
+    fn close(&mut self, id: FrameId) -> Option<Frame> {
+        let frame = self.frames.remove(id).map(|it| *it)?;
+        self.orphans -= u32::from(frame.server == Server::Gone && self.orphans > 0);
+        Some(frame)
+    }
+
     /// BC_REPLY, in the same way.
     pub(super) fn prepare_reply(&mut self, seat: Seat, sent: &Sent<'_>) -> Half {
-        let frame = self.innermost(seat).filter(|it| it.1.server == Server::Seat(seat)).map(|it| (it.0, it.1.caller));
+        let frame = self.served(seat);
         let delivered = match frame {
             None => Err(15),
             Some((_, None)) => Err(16),
@@ -126,6 +138,11 @@ impl Space {
                 self.deliver(seat, receiver, sent, None)
             }
         };
+        if let (Ok(buffer), Some((frame, _))) = (delivered, frame) {
+            if let Some(it) = self.buffer_mut(buffer) {
+                it.answers = Some(frame);
+            }
+        }
         Half { what: What::Reply(frame.map(|it| it.0)), delivered }
     }
 
@@ -143,8 +160,10 @@ impl Space {
             (What::TwoWay(_), Ok(buffer)) => {
                 self.owe(seat, Item::Complete(false), true);
                 let waiting = self.waiting_caller(seat, buffer.0).or(waiter);
+                let process = self.threads.get(seat).and_then(|it| self.processes.get(it.process));
                 let frame = Frame {
                     caller: Some(seat),
+                    caller_pid: process.map_or(0, |it| it.pid),
                     server: Server::Pending,
                     parent: self.innermost(seat).map(|it| it.0),
                     made: Made(self.steps.0, 0),
@@ -178,11 +197,11 @@ impl Space {
     fn commit_reply(&mut self, seat: Seat, frame: Option<FrameId>, delivered: Result<BufferId, u8>) -> Told {
         let frame = match frame {
             // It closed while the reply was under way, as its server has ended.
-            Some(id) => self.frames.remove(id).map(|it| it.caller),
+            Some(id) => self.close(id).map(|it| (id, it.caller)),
             None => None,
         };
-        let caller = match frame {
-            Some(caller) => caller,
+        let (call, caller) = match frame {
+            Some(found) => found,
             None => {
                 self.owe(seat, Item::Refusal(BR_FAILED_REPLY), false);
                 self.settle();
@@ -203,7 +222,7 @@ impl Space {
             (Err(cause), caller) => {
                 self.owe(seat, Item::Refusal(BR_TRANSACTION_COMPLETE), false);
                 if let Some(caller) = caller {
-                    self.owe(caller, Item::Verdict(BR_FAILED_REPLY), false);
+                    self.owe_verdict(caller, BR_FAILED_REPLY, call);
                 }
                 Told::Stopped(cause)
             }

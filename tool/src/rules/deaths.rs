@@ -35,7 +35,7 @@ impl Space {
 
     pub(super) fn ask_death(&mut self, process: ProcessId, handle: u32, cookie: u64) -> Told {
         let number = self.current;
-        let object = match self.name_mut(process, handle) {
+        let target = match self.name_mut(process, handle) {
             None => return Told::Noted(1),
             Some(name) if name.death.is_some() => return Told::Noted(9),
             Some(name) => {
@@ -43,9 +43,10 @@ impl Space {
                 name.object
             }
         };
-        let death = Death { number, handle, cookie, phase: Phase::Armed, is_cleared: false };
+        let object = self.objects.get(target).map_or(Made::default(), |it| it.made);
+        let death = Death { number, handle, object, cookie, phase: Phase::Armed, is_cleared: false };
         self.process_mut(process, |it| it.deaths.push(death));
-        if !self.objects.get(object).map_or(false, |it| it.owner_lives) {
+        if !self.objects.get(target).map_or(false, |it| it.owner_lives) {
             self.queue_death(process, number);
         }
         Told::Accepted
@@ -73,19 +74,19 @@ impl Space {
         Told::Accepted
     }
 
-    pub(super) fn death_done(&mut self, seat: Seat, process: ProcessId, cookie: u64) -> Told {
-        let in_order_of_telling = self.does(Way::ToldOrder);
-        let its = match self.processes.get(process) {
-            Some(it) => it,
-            None => return Told::Noted(11),
-        };
+    /// The death that BC_DEAD_BINDER_DONE with a cookie means.
+    pub fn told_death(&self, process: ProcessId, cookie: u64) -> Option<&Death> {
+        let its = self.processes.get(process)?;
         let is_it = |death: &&Death| death.cookie == cookie && its.told.contains(&death.number);
-        let found = if in_order_of_telling {
+        if self.does(Way::ToldOrder) {
             its.told.iter().filter_map(|number| its.deaths.iter().find(|it| it.number == *number)).find(is_it)
         } else {
             its.deaths.iter().find(is_it)
-        };
-        let (number, is_cleared) = match found {
+        }
+    }
+
+    pub(super) fn death_done(&mut self, seat: Seat, process: ProcessId, cookie: u64) -> Told {
+        let (number, is_cleared) = match self.told_death(process, cookie) {
             Some(death) => (death.number, death.is_cleared),
             None => return Told::Noted(11),
         };

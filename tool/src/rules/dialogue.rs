@@ -96,8 +96,9 @@ fn process(space: &Space, id: ProcessId, it: &Process) -> Value {
 
 /// A name: how many references give it, how many of those what buffers carry, and the cookie of its death notification.
 fn name(process: &Process, handle: u32, it: &Name) -> Value {
-    let entries = || process.buffers.iter().flat_map(|it| it.1.entries.iter()).filter(|entry| entry.0 == it.object);
-    let carried = [WEAK, STRONG].map(|strength| entries().filter(|it| it.1 == strength).count());
+    let entries =
+        || process.buffers.iter().flat_map(|it| it.1.entries.iter()).filter(|entry| entry.object == it.object);
+    let carried = [WEAK, STRONG].map(|strength| entries().filter(|it| it.strength == strength).count());
     let death = it.death.and_then(|number| process.deaths.iter().find(|it| it.number == number)).map(|it| it.cookie);
     json!({ "number": handle, "count": [it.count(WEAK), it.count(STRONG)], "carried": carried, "death": death })
 }

@@ -3,7 +3,7 @@
 use super::*;
 
 impl Space {
-    pub(super) fn exit_thread(&mut self, seat: Seat) {
+    pub fn exit_thread(&mut self, seat: Seat) {
         self.end_thread(seat);
         self.follow();
     }
@@ -21,6 +21,7 @@ impl Space {
                 frame.caller = frame.caller.filter(|it| *it != seat);
                 if frame.server == Server::Seat(seat) {
                     frame.server = Server::Gone;
+                    self.orphans += 1;
                 }
             }
         }
@@ -52,6 +53,7 @@ impl Space {
 
     fn lose_server(&mut self, frame: FrameId) {
         if let Some(frame) = self.frames.get_mut(frame) {
+            self.orphans += u32::from(frame.server != Server::Gone);
             frame.server = Server::Gone;
         }
     }
@@ -93,6 +95,7 @@ impl Space {
         }
         self.end_buffers(process);
         self.processes.remove(process);
+        self.forget_process(process);
         self.follow();
     }
 

@@ -4,7 +4,8 @@
 //! the same by different orders of steps are equal.
 //!
 //! It was written apart from the engine: with no switch on it has to answer as the proved player does (tests/rules.rs), and it
-//! decides nothing that the player or the library can be asked.
+//! decides nothing that the player or the library can be asked. Whoever looks at a journal has it follow the journal's answers
+//! (`following`), for which it remembers more than it needs to answer by itself ([`Memory`]).
 // The machine is whole: some of its halves of steps and of its switches no command asks for.
 #![allow(dead_code, unused_imports)]
 mod buffers;
@@ -12,6 +13,7 @@ mod calls;
 mod deaths;
 pub mod dialogue;
 mod exits;
+mod memory;
 mod objects;
 mod play;
 mod reading;
@@ -20,12 +22,15 @@ mod table;
 mod ways;
 mod writing;
 
-pub use buffers::{Buffer, FIRST_POINTER};
+pub use buffers::{Buffer, Entry, FIRST_POINTER};
+pub use calls::{Half, What};
+pub use memory::{Aside, Called, Gone, Id, Memory};
 pub use reading::Got;
 pub use table::Table;
 pub use ways::{Way, Ways, WAYS};
 pub use writing::Told;
 
+use serde::{Deserialize, Serialize};
 use std::cell::Cell;
 use std::collections::{BTreeMap, VecDeque};
 
@@ -46,7 +51,7 @@ pub type BufferId = (ProcessId, u64);
 pub type FrameId = u64;
 
 /// When a thing was made. It orders things, and tells none apart: what other steps were made before is of no account.
-#[derive(Clone, Copy, Debug, PartialOrd, Ord)]
+#[derive(Clone, Copy, Debug, Default, PartialOrd, Ord, Serialize, Deserialize)]
 pub struct Made(pub u64, pub u32);
 
 impl PartialEq for Made {
@@ -58,7 +63,7 @@ impl PartialEq for Made {
 impl Eq for Made {}
 
 /// Which step has done something, for who looks for causes: it tells no two things apart.
-#[derive(Clone, Copy, Debug, Default)]
+#[derive(Clone, Copy, Debug, Default, Serialize, Deserialize)]
 pub struct By(pub Option<u64>);
 
 /// The same of the latest few steps, the last one first.
@@ -106,14 +111,14 @@ impl PartialEq for Asked {
 
 impl Eq for Asked {}
 
-#[derive(Clone, Copy, Debug, PartialEq, Eq)]
+#[derive(Clone, Copy, Debug, PartialEq, Eq, Serialize, Deserialize)]
 pub enum List {
     Thread(Seat),
     Process(ProcessId),
 }
 
 /// A work item.
-#[derive(Clone, Copy, Debug, PartialEq, Eq)]
+#[derive(Clone, Copy, Debug, PartialEq, Eq, Serialize, Deserialize)]
 pub enum Item {
     Notice(ObjectId),
     /// Whether it reports flooding.
@@ -127,19 +132,21 @@ pub enum Item {
     Cleared(u64),
 }
 
-/// A work item on a list, and which step has put it there.
-#[derive(Clone, Copy, Debug, PartialEq, Eq)]
+/// A work item on a list, and which step has put it there; of a Verdict, which had made the call.
+#[derive(Clone, Copy, Debug, PartialEq, Eq, Serialize, Deserialize)]
 pub struct Listed {
     pub item: Item,
     pub by: By,
+    pub call: By,
 }
 
 pub type Todo = VecDeque<Listed>;
 
-#[derive(Clone, Debug, PartialEq, Eq)]
+#[derive(Clone, Debug, PartialEq, Eq, Serialize, Deserialize)]
 pub struct Process {
     pub pid: u32,
     pub euid: u32,
+    pub by: By,
     pub window: u64,
     pub is_marked: bool,
     /// Whether its window is being flooded, by the driver's measure.
@@ -152,17 +159,21 @@ pub struct Process {
     /// The numbers of those that were told, in the order of telling.
     pub told: Vec<u64>,
     /// Names whose last reference has gone, and who have yet to go themselves (`Way::Released`), with whose command that was.
+    #[serde(skip)]
     pub unnamed: Vec<(Seat, u32)>,
     /// Of a number that was taken away, which steps have taken references from its name last.
+    #[serde(skip)]
     pub freed: BTreeMap<u32, Past>,
     /// Threads whose reads wait for whatever comes to the process, the latest first (`Way::Waiter`). Recordings have none: what a read
     /// has brought tells who waited.
+    #[serde(skip)]
     pub waiters: Vec<Seat>,
 }
 
-#[derive(Clone, Debug, PartialEq, Eq)]
+#[derive(Clone, Debug, PartialEq, Eq, Serialize, Deserialize)]
 pub struct Thread {
     pub process: ProcessId,
+    pub by: By,
     pub is_looping: bool,
     /// Whether it has ever entered the loop.
     pub has_entered: bool,
@@ -170,14 +181,17 @@ pub struct Thread {
     pub is_due: bool,
     pub todo: Todo,
     /// A transaction or reply whose objects have their numbers, and that has yet to come to a list (`Way::Numbered`).
+    #[serde(skip)]
     pub half: Option<calls::Half>,
     /// What the transaction or reply holds that has yet to give its objects their numbers (`Way::Held`).
+    #[serde(skip)]
     pub held: Vec<(ObjectId, usize)>,
 }
 
-#[derive(Clone, Debug, PartialEq, Eq)]
+#[derive(Clone, Debug, PartialEq, Eq, Serialize, Deserialize)]
 pub struct Object {
     pub cookie: u64,
+    pub owner_pid: u32,
     pub owner_lives: bool,
     pub told: [bool; 2],
     pub handshake: [bool; 2],
@@ -197,10 +211,14 @@ pub struct Object {
     pub turns: VecDeque<u64>,
     pub made: Made,
     /// Which steps have counted references up and down last, and which has read that it isn't held any more.
+    #[serde(skip)]
     pub up: Past,
+    #[serde(skip)]
     pub down: Past,
     /// .. and have ended a one-way call with no other behind it.
+    #[serde(skip)]
     pub turned: Past,
+    #[serde(skip)]
     pub untold: By,
 }
 
@@ -229,7 +247,7 @@ pub enum Ground {
 }
 
 /// A process's name for another's object: how many references give it.
-#[derive(Clone, Debug, PartialEq, Eq)]
+#[derive(Clone, Debug, PartialEq, Eq, Serialize, Deserialize)]
 pub struct Name {
     pub object: ObjectId,
     pub asked: [u32; 2],
@@ -238,6 +256,7 @@ pub struct Name {
     pub death: Option<u64>,
     pub by: By,
     /// Which steps have taken references from it last.
+    #[serde(skip)]
     pub down: Past,
 }
 
@@ -247,7 +266,7 @@ impl Name {
     }
 }
 
-#[derive(Clone, Copy, Debug, PartialEq, Eq)]
+#[derive(Clone, Copy, Debug, PartialEq, Eq, Serialize, Deserialize)]
 pub enum Phase {
     Armed,
     Queued,
@@ -255,33 +274,47 @@ pub enum Phase {
     Done,
 }
 
-#[derive(Clone, Debug, PartialEq, Eq)]
+impl Phase {
+    pub fn name(self) -> &'static str {
+        match self {
+            Phase::Armed => "armed",
+            Phase::Queued => "queued",
+            Phase::Told => "told",
+            Phase::Done => "done",
+        }
+    }
+}
+
+#[derive(Clone, Debug, PartialEq, Eq, Serialize, Deserialize)]
 pub struct Death {
     /// The step that asked for it.
     pub number: u64,
     pub handle: u32,
+    /// When the object was made: its name may go before it.
+    pub object: Made,
     pub cookie: u64,
     pub phase: Phase,
     pub is_cleared: bool,
 }
 
-#[derive(Clone, Copy, Debug, PartialEq, Eq)]
+#[derive(Clone, Copy, Debug, PartialEq, Eq, Serialize, Deserialize)]
 pub enum Server {
     Pending,
     Gone,
     Seat(Seat),
 }
 
-#[derive(Clone, Copy, Debug, PartialEq, Eq)]
+#[derive(Clone, Copy, Debug, PartialEq, Eq, Serialize, Deserialize)]
 pub struct Frame {
     pub caller: Option<Seat>,
+    pub caller_pid: u32,
     pub server: Server,
     pub parent: Option<FrameId>,
     pub made: Made,
 }
 
 /// All processes with what they have, between two steps.
-#[derive(Clone, Debug, PartialEq, Eq)]
+#[derive(Clone, Debug, PartialEq, Eq, Serialize, Deserialize)]
 pub struct Space {
     pub ways: Ways,
     /// How many steps were made.
@@ -296,12 +329,19 @@ pub struct Space {
     pub frames: Table<FrameId, Frame>,
     pub manager: Option<ObjectId>,
     /// Objects of which the step may have changed what keeps them or what their owner is owed. Empty between two steps.
+    #[serde(skip)]
     touched: Vec<ObjectId>,
     /// How many things the step has made.
     things: u32,
     /// Threads that the driver has woken, and whose reads haven't come to their end yet.
+    #[serde(skip)]
     pub woken: Vec<Seat>,
+    #[serde(skip)]
     asked: Asked,
+    /// How many calls have lost their server and aren't closed yet.
+    orphans: u32,
+    /// What is remembered of the past, where anybody asks for it.
+    memory: Aside<Option<Box<Memory>>>,
 }
 
 /// A request but a write and a read, which are calls of their own.
@@ -334,6 +374,8 @@ impl Space {
             things: 0,
             woken: Vec::new(),
             asked: Asked::default(),
+            orphans: 0,
+            memory: Aside::default(),
         }
     }
 
@@ -408,6 +450,7 @@ impl Space {
         let process = Process {
             pid,
             euid,
+            by: By(Some(self.current)),
             window,
             is_marked: false,
             is_flooded: false,
@@ -432,6 +475,7 @@ impl Space {
     pub fn attach(&mut self, seat: Seat, process: ProcessId) {
         let thread = Thread {
             process,
+            by: By(Some(self.current)),
             is_looping: false,
             has_entered: false,
             is_due: false,
@@ -483,7 +527,7 @@ impl Space {
     pub(super) fn queue(&mut self, item: Item, list: List) {
         let by = By(Some(self.current));
         if let Some(todo) = self.list_mut(list) {
-            todo.push_back(Listed { item, by });
+            todo.push_back(Listed { item, by, call: By::default() });
         }
     }
 
@@ -497,13 +541,22 @@ impl Space {
 
     /// An item of a thread's own. One that is deferred is no reason to end a read.
     pub(super) fn owe(&mut self, seat: Seat, item: Item, is_deferred: bool) {
+        self.owe_of(seat, item, is_deferred, By::default());
+    }
+
+    /// What becomes of a call that gets no reply.
+    pub(super) fn owe_verdict(&mut self, seat: Seat, code: u32, call: FrameId) {
+        self.owe_of(seat, Item::Verdict(code), false, By(Some(call)));
+    }
+
+    fn owe_of(&mut self, seat: Seat, item: Item, is_deferred: bool, call: By) {
         let one_verdict = self.does(Way::Verdict) && matches!(item, Item::Verdict(_));
         let by = By(Some(self.current));
         if let Some(thread) = self.threads.get_mut(seat) {
             if one_verdict && thread.todo.iter().any(|it| matches!(it.item, Item::Verdict(_))) {
                 return;
             }
-            thread.todo.push_back(Listed { item, by });
+            thread.todo.push_back(Listed { item, by, call });
             thread.is_due = thread.is_due || !is_deferred;
         }
     }

@@ -9,6 +9,7 @@ impl Space {
         let made = self.new_thing();
         let new = Object {
             cookie,
+            owner_pid: self.processes.get(object.0).map_or(0, |it| it.pid),
             owner_lives: true,
             told: [false; 2],
             handshake: [false; 2],
@@ -26,11 +27,14 @@ impl Space {
             untold: By::default(),
         };
         self.objects.insert(object, new);
+        self.remember_object(object, made);
     }
 
     fn remove_object(&mut self, object: ObjectId) {
         self.take_back(object);
-        self.objects.remove(object);
+        if let Some(it) = self.objects.remove(object) {
+            self.forget_object(it.made);
+        }
     }
 
     pub(super) fn touch(&mut self, object: ObjectId) {
@@ -139,7 +143,7 @@ impl Space {
     fn forget_strong_name(&mut self, object: ObjectId) {
         let by = By(Some(self.current));
         if let Some(it) = self.objects.get_mut(object) {
-            it.strong_names -= 1;
+            it.strong_names = it.strong_names.saturating_sub(1);
             it.down.add(by);
         }
     }
@@ -174,6 +178,7 @@ impl Space {
             Some(name) => name,
             None => return,
         };
+        self.remember_name(process, handle, &name);
         if name.count(STRONG) > 0 {
             self.forget_strong_name(name.object);
             self.lost(name.object, STRONG);

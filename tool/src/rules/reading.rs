@@ -70,12 +70,28 @@ impl Space {
     }
 
     fn take_first(&mut self, seat: Seat, list: List) {
-        if let Some(todo) = self.list_mut(list) {
-            todo.pop_front();
-        }
+        self.take_off(seat, list, 0);
+    }
+
+    fn take_off(&mut self, seat: Seat, list: List, at: usize) -> Option<Listed> {
+        let taken = self.list_mut(list).and_then(|it| it.remove(at));
         if let Some(thread) = self.threads.get_mut(seat) {
             thread.is_due = thread.is_due && !thread.todo.is_empty();
         }
+        taken
+    }
+
+    /// Takes one item off a list, wherever it stands there, for who knows what was read: the item, and what it reads as.
+    pub fn take(&mut self, seat: Seat, list: List, at: usize) -> Option<(Listed, Got)> {
+        let listed = self.take_off(seat, list, at)?;
+        let mut got = Got { stream: Vec::new(), data: Rc::new([]), offsets: Rc::new([]), buffer: None };
+        self.spell(seat, listed.item, &mut got);
+        Some((listed, got))
+    }
+
+    /// What comes behind a read whose items were taken so.
+    pub fn end_read(&mut self) {
+        self.follow();
     }
 
     /// What an item reads as, and what its reading does.

@@ -1,5 +1,8 @@
 // SPDX-License-Identifier: Apache-2.0 OR MIT
 //! Values by their keys, which copies of a space share until one of them changes a value.
+use serde::de::Deserializer;
+use serde::ser::Serializer;
+use serde::{Deserialize, Serialize};
 use std::rc::Rc;
 
 /// Sorted by key. A copy takes a count for each value, and no value is copied before it is changed.
@@ -9,6 +12,23 @@ pub struct Table<K, V>(Vec<(K, Rc<V>)>);
 impl<K, V> Default for Table<K, V> {
     fn default() -> Table<K, V> {
         Table(Vec::new())
+    }
+}
+
+impl<K: Serialize, V: Serialize> Serialize for Table<K, V> {
+    fn serialize<S: Serializer>(&self, to: S) -> Result<S::Ok, S::Error> {
+        to.collect_seq(self.0.iter().map(|(key, value)| (key, &**value)))
+    }
+}
+
+impl<'de, K: Deserialize<'de> + Ord + Copy, V: Deserialize<'de>> Deserialize<'de> for Table<K, V> {
+    /// What isn't sorted, as no table is, is sorted.
+    fn deserialize<D: Deserializer<'de>>(from: D) -> Result<Table<K, V>, D::Error> {
+        let values = Vec::<(K, V)>::deserialize(from)?;
+        let mut values: Vec<(K, Rc<V>)> = values.into_iter().map(|(key, value)| (key, Rc::new(value))).collect();
+        values.sort_by_key(|it| it.0);
+        values.dedup_by_key(|it| it.0);
+        Ok(Table(values))
     }
 }
 
@@ -42,6 +62,16 @@ impl<K: Ord + Copy, V: Clone> Table<K, V> {
 
     pub fn iter(&self) -> impl DoubleEndedIterator<Item = (K, &V)> {
         self.0.iter().map(|(key, value)| (*key, &**value))
+    }
+
+    /// Those from a key on.
+    pub fn from(&self, key: K) -> impl Iterator<Item = (K, &V)> {
+        let at = self.place(key).unwrap_or_else(|at| at);
+        self.0[at..].iter().map(|(key, value)| (*key, &**value))
+    }
+
+    pub fn len(&self) -> usize {
+        self.0.len()
     }
 
     pub fn keys(&self) -> impl DoubleEndedIterator<Item = K> + '_ {

@@ -1,5 +1,6 @@
 // SPDX-License-Identifier: Apache-2.0 OR MIT
 //! The switches of the model: in what Linux's driver does otherwise than the rules (docs/DIFFERENCES.md).
+use serde::{Deserialize, Serialize};
 use std::fmt;
 
 /// One way in which the driver does otherwise.
@@ -65,7 +66,7 @@ pub static WAYS: [(Way, &str, bool); 26] = [
 ];
 
 /// Some of them: those in which the model goes the driver's way.
-#[derive(Clone, Copy, Debug, Default, PartialEq, Eq)]
+#[derive(Clone, Copy, Debug, Default, PartialEq, Eq, Serialize, Deserialize)]
 pub struct Ways(u32);
 
 impl Ways {
@@ -85,6 +86,13 @@ impl Ways {
 
     pub fn minus(self, others: Ways) -> Ways {
         Ways(self.0 & !others.0)
+    }
+
+    /// Those with which a journal of whole steps can be followed: halves of steps aren't in it, and who waited is known by who has read.
+    pub fn followed(self) -> Ways {
+        [Way::Waiter, Way::Numbered, Way::Held, Way::Released, Way::Pieces]
+            .iter()
+            .fold(self, |ways, it| ways.without(*it))
     }
 
     pub fn iter(self) -> impl Iterator<Item = Way> {

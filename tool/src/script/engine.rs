@@ -2,14 +2,14 @@
 //! Scripts played by the library's own engine, where there is no player: each line is made as its steps, one after the other, and is told as
 //! the player tells it. What several threads would do at once is done by turns, which the player does too where it has no threads.
 use crate::codes::{self, Message, COMMANDS};
+use crate::following::{Facts, Space};
 use crate::journal::{self, Answer, Entry, Heading, Step};
 use crate::judge::Judge;
 use crate::mail::Mailboxes;
 use crate::record::{u32_at, Parcel, Record};
 use crate::refusals::Kind;
 use crate::rules::script::{line_of, Line};
-use crate::rules::Request;
-use crate::space::{Facts, Space};
+use crate::rules::{Request, Ways};
 use anyhow::{bail, ensure, Context, Result};
 use std::fmt::Write as _;
 
@@ -118,7 +118,7 @@ impl Engine {
         let journal = [&MARK[..], &seats.to_le_bytes(), &[0; 4]].concat();
         let heading = Heading::read(&journal)?;
         let judge = Judge::new(&heading)?;
-        let (space, facts, mail) = (Space::default(), Facts::default(), Mailboxes::new());
+        let (space, facts, mail) = (Space::remembering(Ways::NONE), Facts::default(), Mailboxes::new());
         Ok(Engine { judge, heading, space, facts, seats, count: 0, journal, mail })
     }
 
@@ -134,7 +134,7 @@ impl Engine {
             _ => made.to_vec(),
         };
         let entry = journal::entry(&self.heading, self.count, 0, &bytes)?;
-        self.space.step(&entry, &mut self.facts);
+        self.space.follow_entry(&entry, &mut self.facts);
         self.count += 1;
         let told = told(&entry);
         self.journal.extend(bytes);

@@ -3,10 +3,10 @@
 use super::model::{Arrow, Diagram, End, Event, Kind, Target};
 use super::tracks::{Sheet, Tracks};
 use crate::codes::*;
+use crate::following::{About, Facts, ObjectId, Space};
 use crate::journal::{Answer, Entry, Step};
 use crate::play::{Lies, Player, Range};
 use crate::refusals::{Kind as ReasonKind, Reason};
-use crate::space::{About, Facts, ObjectId, Space};
 use anyhow::Result;
 use std::collections::HashMap;
 

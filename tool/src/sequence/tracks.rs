@@ -2,7 +2,7 @@
 //! What the threads of the seats are doing, step by step, and the sheet on which that is drawn.
 use super::labels::plain;
 use super::model::{Doing, Event, Lane, Row, Span, Thing};
-use crate::space::{Facts, Server, Space};
+use crate::following::{Facts, Space};
 use std::collections::BTreeMap;
 
 /// What was drawn so far.
@@ -91,9 +91,10 @@ impl Tracks {
     /// Goes along with what a seat's thread is in now.
     pub fn follow(&mut self, space: &Space, seat: u32, sheet: &mut Sheet) {
         let track = self.seats.entry(seat).or_default();
-        let thread = space.threads.get(&seat);
-        let (process, innermost) = (thread.map(|it| it.process), thread.and_then(|it| it.frames.last().copied()));
-        track.pid = thread.map(|it| it.pid);
+        let its = space.threads.get(seat).and_then(|it| space.processes.get(it.process));
+        let innermost = its.and_then(|_| space.innermost(seat)).map(|it| it.0);
+        let process = its.map(|it| it.by.0.unwrap_or(0));
+        track.pid = its.map(|it| it.pid);
         track.leave(process, innermost, sheet);
         if let (Some(process), true) = (process, track.spans.is_empty()) {
             track.enter(seat, Doing::Idle, process, sheet);
@@ -104,8 +105,7 @@ impl Tracks {
         };
         let is_known = track.spans.last().map_or(false, |it| it.doing != Doing::Idle && it.since == call);
         if !is_known {
-            let serves = space.frames.get(&call).map_or(false, |it| it.server == Server::Seat(seat));
-            track.enter(seat, if serves { Doing::Serves } else { Doing::Waits }, call, sheet);
+            track.enter(seat, if space.served(seat).is_some() { Doing::Serves } else { Doing::Waits }, call, sheet);
         }
     }
 
