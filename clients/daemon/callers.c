@@ -209,18 +209,24 @@ static bool has_ended(const struct caller *caller)
     return may_have && !lives(caller->folder);
 }
 
+/* It is another user now, or of another group. False where it can't be. */
+static __attribute__((noinline)) bool change(struct caller *caller)
+{
+    struct caller now;
+    if (!read_status(caller, &now) || !can_become(caller, &now))
+        return false;
+    *caller = now;
+    return true;
+}
+
 /* The folder of a process that has gone is root's. */
 bool caller_euid(struct caller *caller, uid_t *euid)
 {
     struct stat stat;
-    struct caller now;
     if (fstat(caller->folder, &stat) || (stat.st_uid == ROOT && has_ended(caller)))
         return false;
-    if (stat.st_uid != caller->users.effective || stat.st_gid != caller->groups.effective) {
-        if (!read_status(caller, &now) || !can_become(caller, &now))
-            return false;
-        *caller = now;
-    }
+    if ((stat.st_uid != caller->users.effective || stat.st_gid != caller->groups.effective) && !change(caller))
+        return false;
     *euid = caller->users.effective;
     return true;
 }

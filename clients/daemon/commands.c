@@ -127,12 +127,20 @@ static int send_call(struct run *run, bool is_reply, const struct target *target
     return error;
 }
 
+static void read_record(struct binder_transaction_data_sg *record, uint32_t code, const uint8_t *payload)
+{
+    memcpy(&record->transaction_data, payload, sizeof record->transaction_data);
+    record->buffers_size = 0;
+    if (code == BC_TRANSACTION_SG || code == BC_REPLY_SG)
+        memcpy(&record->buffers_size, payload + sizeof record->transaction_data, sizeof record->buffers_size);
+}
+
 static int run_call(struct run *run, uint32_t code, const uint8_t *payload)
 {
     struct parcel parcel;
     uint32_t made;
     bool is_reply = code == BC_REPLY || code == BC_REPLY_SG;
-    struct binder_transaction_data_sg record = {0};
+    struct binder_transaction_data_sg record;
     struct process *process = run->thread->process;
     parcel_begin(&parcel);
     if (!caller_euid(&process->caller, &parcel.euid))
@@ -140,10 +148,7 @@ static int run_call(struct run *run, uint32_t code, const uint8_t *payload)
     if (!owed_take(run->thread))
         return ENOMEM;
     parcel.tells_euid = parcel.euid != process->euid;
-    if (code == BC_TRANSACTION || code == BC_REPLY)
-        memcpy(&record.transaction_data, payload, sizeof record.transaction_data);
-    else
-        memcpy(&record, payload, sizeof record);
+    read_record(&record, code, payload);
     if (!is_reply && calls_own_manager(run, &record.transaction_data))
         record.transaction_data.target.handle = NO_HANDLE;
     parcel.may_have_descriptors = run->fd_count && reach_takes_descriptors(run->thread, is_reply, record.transaction_data.target.handle);

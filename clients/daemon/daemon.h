@@ -287,6 +287,8 @@ struct account *account_keep(struct account *account);
 void account_release(struct account *account);
 /* Takes so much, or nothing and answers false where that would be over the share, which is counted. */
 bool account_take(struct account *account, enum shared what, uint64_t amount);
+/* It was refused more for another reason than its share, which is counted too. */
+void account_refuse(struct account *account, enum shared what);
 void account_give(struct account *account, enum shared what, uint64_t amount);
 /* Takes what is there already, be it over the share, in which there is nothing left then. */
 void account_force(struct account *account, enum shared what, uint64_t amount);
@@ -1009,8 +1011,8 @@ void returns_clear(struct process *process, binder_uintptr_t cookie);
 /* The one comes before each step of a seat, the other follows it. */
 void reach_before_step(struct engine *engine, bool is_read);
 void reach_after_step(struct engine *engine, uint32_t seat, bool is_read);
-/* Asks the engine, and then whether somebody is to be looked at. */
-bool reach_ask(struct engine *engine);
+/* Asks the engine, and then whether somebody is to be looked at. It stays out of where nothing is to be asked. */
+__attribute__((noinline)) bool reach_ask(struct engine *engine);
 /* Whether somebody is to be looked at whom the steps have reached. */
 static inline bool reach_is_left(struct engine *engine)
 {

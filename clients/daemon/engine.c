@@ -154,8 +154,6 @@ static void record(struct engine *engine, const struct step *step, uint64_t time
 /* Keeps what was done, for who asks later and who looks now. */
 static void tell_step(struct engine *engine, const struct step *step)
 {
-    if (!engine->journal.recorder && !engine->ring.heading)
-        return;
     uint64_t time = turns_read_clock(&engine->loop.turns);
     if (engine->journal.recorder)
         record(engine, step, time);
@@ -172,23 +170,18 @@ static bool may_end_buffers(const struct step *step)
     return code == BC_FREE_BUFFER || step->kind == RING_EXIT_THREAD || step->kind == RING_EXIT_PROCESS;
 }
 
-/* What a step's status is for the client; a step that was made goes to the journal and the ring. */
+/* What a step's status is for the client; a step that was made goes to the journal and the ring. A history is full by a handle behind the
+   last of its process: no device makes 2^64 steps. */
 static int stepped(struct engine *engine, const struct step *step, uint32_t status)
 {
-    switch (status) {
-    case HULLPIPPIN_DONE:
-        tell_step(engine, step);
-        count_step(engine);
-        if (may_end_buffers(step))
-            sent_see_ended(engine);
-        reach_after_step(engine, step->seat, step->kind == RING_READ);
-        return 0;
-    case HULLPIPPIN_NO_MEMORY:
-    case HULLPIPPIN_HISTORY_FULL: /* by a handle behind the last of its process: no device makes 2^64 steps */
-        return ENOMEM;
-    default:
-        return EINVAL; /* NO_COMMAND */
-    }
+    if (status != HULLPIPPIN_DONE)
+        return status == HULLPIPPIN_NO_MEMORY || status == HULLPIPPIN_HISTORY_FULL ? ENOMEM : EINVAL; /* NO_COMMAND */
+    tell_step(engine, step);
+    count_step(engine);
+    if (may_end_buffers(step))
+        sent_see_ended(engine);
+    reach_after_step(engine, step->seat, step->kind == RING_READ);
+    return 0;
 }
 
 int engine_open(struct engine *engine, uint32_t seat, uint32_t pid, uint32_t euid, uint32_t window)

@@ -67,17 +67,22 @@ static void end_one(struct engine *engine)
         process_end(container_of(engine->processes.next, struct process, in_engine));
 }
 
-/* Between two turns: what is to be looked at; or of a device that is over the end of its clients. */
+/* What there isn't to be done between most turns: the end of a client of a device that is over; or else a look at some. */
+static __attribute__((noinline)) bool see_to_rest(struct engine *engine)
+{
+    if (engine->is_over) {
+        end_one(engine);
+        return true;
+    }
+    bool has_more = settle_some(engine);
+    turns_note_time(&engine->loop.turns);
+    return has_more;
+}
+
 static bool between(void *context)
 {
     struct engine *engine = context;
-    bool has_more = engine->is_over;
-    if (has_more)
-        end_one(engine);
-    else if (settle_is_left(engine)) {
-        has_more = settle_some(engine);
-        turns_note_time(&engine->loop.turns);
-    }
+    bool has_more = (engine->is_over || settle_is_left(engine)) && see_to_rest(engine);
     ring_put_turns(engine);
     return has_more;
 }

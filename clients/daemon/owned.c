@@ -16,6 +16,9 @@
 #define LOOKS_EACH 2u
 #define LOOKS_WITHOUT_SHARE 128u
 
+/* A process's end is one step, which takes the longer the more it owns, so it owns no more than this at a time. */
+#define OWNED_MOST 32768u
+
 /* The object of a parcel's entry, if it is one of its sender's own. */
 static bool is_own(const struct parcel *parcel, uint64_t entry, struct flat_binder_object *object)
 {
@@ -78,6 +81,15 @@ static bool has_room(struct owned *owned, uint64_t more)
     return true;
 }
 
+static bool take(struct process *process, uint32_t count)
+{
+    const struct owned *owned = &process->owned;
+    if (owned->count - owned->gone + (uint64_t)count <= OWNED_MOST)
+        return account_take(process->account, SHARED_OBJECTS, count);
+    account_refuse(process->account, SHARED_OBJECTS);
+    return false;
+}
+
 bool owned_take(struct process *process, const struct parcel *parcel, uint32_t *taken)
 {
     struct flat_binder_object object;
@@ -87,10 +99,10 @@ bool owned_take(struct process *process, const struct parcel *parcel, uint32_t *
     if (!*taken)
         return true;
     bool has = has_room(&process->owned, *taken);
-    bool is_taken = has && account_take(process->account, SHARED_OBJECTS, *taken);
+    bool is_taken = has && take(process, *taken);
     if (has && !is_taken) {
         look(process, LOOKS_WITHOUT_SHARE);
-        is_taken = account_take(process->account, SHARED_OBJECTS, *taken);
+        is_taken = take(process, *taken);
     }
     *taken = is_taken ? *taken : 0;
     return is_taken;
@@ -114,7 +126,8 @@ void owned_note(struct process *process, const struct parcel *parcel, uint32_t t
     }
     if (taken > index)
         account_give(process->account, SHARED_OBJECTS, taken - index);
-    look(process, LOOKS_EACH * index);
+    if (index)
+        look(process, LOOKS_EACH * index);
 }
 
 /* They stand in the order of their places, and of their numbers. */

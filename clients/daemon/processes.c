@@ -75,9 +75,9 @@ void process_note_handed(struct process *process, uint64_t place, unsigned hande
     if (place >= process->window.size)
         return;
     uint64_t *word = &process->handed[place / 8 / PLACES_OF_WORD];
-    uint64_t shift = 2 * (place / 8 % PLACES_OF_WORD);
-    process->handed_count += (handed != NOT_HANDED) - ((*word >> shift & 3) != NOT_HANDED);
-    *word = (*word & ~(UINT64_C(3) << shift)) | (uint64_t)handed << shift;
+    uint64_t shift = 2 * (place / 8 % PLACES_OF_WORD), before = *word >> shift & 3;
+    process->handed_count += (handed != NOT_HANDED) - (before != NOT_HANDED);
+    *word ^= (before ^ handed) << shift;
 }
 
 unsigned process_handed(const struct process *process, uint64_t place)

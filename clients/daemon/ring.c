@@ -56,9 +56,11 @@ static void put_client(struct engine *engine, struct ring_slot *slot, const stru
     const struct thread *thread = engine->lent[step->seat];
     slot->seat = step->seat;
     if (thread) {
-        slot->pid = (uint32_t)thread->process->pid;
+        const struct process *process = thread->process;
+        const uint32_t pid = (uint32_t)process->pid, engine_pid = process->engine_pid;
+        slot->pid = pid;
         slot->tid = (uint32_t)thread->name.tid;
-        slot->process = thread->process->engine_pid;
+        slot->process = engine_pid;
         memcpy(slot->comm, thread->name.comm, sizeof slot->comm);
     } else if (!step->seat) {
         engine->ring.own_process = step->pid ? step->pid : engine->ring.own_process;
@@ -68,38 +70,34 @@ static void put_client(struct engine *engine, struct ring_slot *slot, const stru
     }
 }
 
-static enum ring_answer answer_of(const hullpippin_answer *answer)
-{
-    switch (answer->kind) {
-    case HULLPIPPIN_OPENED:
-        return RING_OPENED;
-    case HULLPIPPIN_SET:
-        return RING_SET;
-    case HULLPIPPIN_EXITED:
-        return RING_EXITED;
-    case HULLPIPPIN_WROTE:
-        return answer->stop == HULLPIPPIN_AT_CAUSE ? RING_STOPPED : answer->notes ? RING_NOTED : RING_ACCEPTED;
-    case HULLPIPPIN_GOT:
-        return RING_GOT;
-    default:
-        return RING_REFUSED;
-    }
-}
+/* By an answer's kind; what a command came to isn't told by that alone. */
+static const uint8_t answers[] = {[0] = RING_REFUSED, [HULLPIPPIN_OPENED] = RING_OPENED, [HULLPIPPIN_SET] = RING_SET,
+                                  [HULLPIPPIN_EXITED] = RING_EXITED, [HULLPIPPIN_WROTE] = RING_ACCEPTED, [HULLPIPPIN_GOT] = RING_GOT};
 
 /* The number of a note, a cause or a fault. */
-static void count_number(struct ring_counts *counts, const struct ring_slot *slot)
+static uint8_t count_number(uint64_t *numbers, uint32_t number, enum ring_answer answer)
 {
-    uint64_t *const numbers[] = {[RING_NOTED] = counts->notes, [RING_STOPPED] = counts->causes, [RING_REFUSED] = counts->faults};
-    count(&numbers[slot->answer][slot->number % 32]);
+    count(&numbers[number % 32]);
+    return (uint8_t)answer;
+}
+
+static uint8_t answer_of(struct ring_counts *counts, const hullpippin_answer *answer)
+{
+    uint8_t told = answer->kind < sizeof answers ? answers[answer->kind] : RING_REFUSED;
+    if (told == RING_REFUSED)
+        return count_number(counts->faults, answer->number, RING_REFUSED);
+    if (told != RING_ACCEPTED)
+        return told;
+    if (answer->stop == HULLPIPPIN_AT_CAUSE)
+        return count_number(counts->causes, answer->number, RING_STOPPED);
+    return answer->notes ? count_number(counts->notes, answer->number, RING_NOTED) : told;
 }
 
 static void put_answer(struct ring_counts *counts, struct ring_slot *slot, const hullpippin_answer *answer)
 {
-    slot->answer = (uint8_t)answer_of(answer);
+    slot->answer = answer_of(counts, answer);
     slot->number = (uint8_t)answer->number;
     count(&counts->answers[slot->answer]);
-    if (slot->answer == RING_NOTED || slot->answer == RING_STOPPED || slot->answer == RING_REFUSED)
-        count_number(counts, slot);
 }
 
 /* Where a call or reply goes that was taken. The engine is asked where that wasn't known before. */
@@ -212,13 +210,17 @@ static void put_received(struct engine *engine, struct ring_slot *slot, const ui
 /* Counts the returns of a read: the last of them, which is the slot's. */
 static const uint8_t *last_return(struct engine *engine, uint32_t *code)
 {
+    uint64_t *const returns = engine->ring.heading->counts.returns;
     const uint8_t *last = engine->returns;
-    for (uint32_t at = 0; at + sizeof *code <= engine->returns_size; at += sizeof *code + _IOC_SIZE(*code)) {
+    const uint32_t size = engine->returns_size;
+    uint32_t latest = 0;
+    for (uint32_t at = 0; at + sizeof latest <= size; at += sizeof latest + _IOC_SIZE(latest)) {
         last = engine->returns + at;
-        memcpy(code, last, sizeof *code);
-        count(&engine->ring.heading->counts.returns[_IOC_NR(*code) % 32]);
+        memcpy(&latest, last, sizeof latest);
+        count(&returns[_IOC_NR(latest) % 32]);
     }
-    return last + sizeof *code;
+    *code = latest;
+    return last + sizeof latest;
 }
 
 static void put_read(struct engine *engine, struct ring_slot *slot, const struct step *step)
@@ -262,14 +264,6 @@ void ring_put_turns(struct engine *engine)
     set(&counts->longest_open, atomic_load_explicit(&engine->daemon->loop.turns.longest_time, memory_order_relaxed));
 }
 
-static void count_processes(const struct engine *engine, struct ring_counts *counts, const struct step *step)
-{
-    if (step->kind == RING_OPEN && engine->answer.kind == HULLPIPPIN_OPENED)
-        count(&counts->processes);
-    else if (step->kind == RING_EXIT_PROCESS && engine->answer.kind == HULLPIPPIN_EXITED)
-        set(&counts->processes, counts->processes - 1);
-}
-
 void ring_count_lent(struct ring *ring, uint32_t lent)
 {
     if (!ring->heading)
@@ -291,6 +285,18 @@ static void clear(struct ring_slot *slot)
     memset(slot->comm, 0, sizeof slot->comm);
 }
 
+static void put_other(struct engine *engine, struct ring_slot *slot, const struct step *step)
+{
+    struct ring_counts *counts = &engine->ring.heading->counts;
+    slot->code = step->window;
+    slot->euid = step->euid;
+    slot->flags = step->on;
+    if (step->kind == RING_OPEN && slot->answer == RING_OPENED)
+        count(&counts->processes);
+    else if (step->kind == RING_EXIT_PROCESS && slot->answer == RING_EXITED)
+        set(&counts->processes, counts->processes - 1);
+}
+
 /* Fills all of a slot but its sequence. */
 static void fill(struct engine *engine, struct ring_slot *slot, const struct step *step, uint64_t time)
 {
@@ -301,15 +307,12 @@ static void fill(struct engine *engine, struct ring_slot *slot, const struct ste
     slot->call = slot->object_place = RING_NONE;
     put_client(engine, slot, step);
     put_answer(&engine->ring.heading->counts, slot, &engine->answer);
-    if (step->kind == RING_COMMAND) {
+    if (step->kind == RING_COMMAND)
         put_command(engine, slot, step);
-    } else if (step->kind == RING_READ) {
+    else if (step->kind == RING_READ)
         put_read(engine, slot, step);
-    } else {
-        slot->code = step->window;
-        slot->euid = step->euid;
-        slot->flags = step->on;
-    }
+    else
+        put_other(engine, slot, step);
 }
 
 void ring_put(struct engine *engine, const struct step *step, uint64_t time)
@@ -321,5 +324,4 @@ void ring_put(struct engine *engine, const struct step *step, uint64_t time)
     fill(engine, slot, step, time);
     __atomic_store_n(&slot->sequence, 2 * place + 2, __ATOMIC_RELEASE);
     __atomic_store_n(&engine->ring.heading->count, place + 1, __ATOMIC_RELEASE);
-    count_processes(engine, &engine->ring.heading->counts, step);
 }

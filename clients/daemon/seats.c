@@ -92,16 +92,19 @@ static bool attach(struct thread *thread, uint32_t seat)
     return true;
 }
 
-bool seat_lend(struct thread *thread)
+static __attribute__((noinline)) bool lend(struct thread *thread)
 {
     struct engine *engine = thread->process->engine;
-    if (thread->seat != NO_SEAT)
-        return true;
     if (!engine->free_count && !recycle(engine)) {
         log_event("%s: all %u seats are busy", engine->device, engine->seats - 1);
         return false;
     }
     return attach(thread, engine->free_seats[engine->free_count - 1]);
+}
+
+bool seat_lend(struct thread *thread)
+{
+    return thread->seat != NO_SEAT || lend(thread);
 }
 
 void seat_await(struct thread *thread)
@@ -115,13 +118,19 @@ static struct thread *first_seatless(struct engine *engine)
     return list_is_empty(&engine->seatless) ? NULL : container_of(engine->seatless.next, struct thread, in_seatless);
 }
 
-void seats_retry(struct engine *engine)
+static __attribute__((noinline)) void lend_to_seatless(struct engine *engine)
 {
     struct thread *thread;
     while ((thread = first_seatless(engine)) && (thread->process->is_ending || seat_lend(thread))) {
         list_remove(&thread->in_seatless);
         turns_want(&engine->loop.turns, &thread->bell);
     }
+}
+
+void seats_retry(struct engine *engine)
+{
+    if (!list_is_empty(&engine->seatless))
+        lend_to_seatless(engine);
 }
 
 /* Whose process has ended meanwhile has no thread any more, and the engine says so. */

@@ -214,9 +214,11 @@ void sendings_gather(struct thread *thread)
 
 void sendings_note(struct thread *thread, const struct parcel *parcel, const struct process *receiver)
 {
-    struct sending sending = {.receiver = receiver, .step = thread->process->engine->steps};
     uint64_t count = parcel->offsets_size / sizeof(binder_size_t);
-    for (uint64_t i = 0; count <= SENT_MOST && i < count; i++) {
+    if (!count || count > SENT_MOST)
+        return;
+    struct sending sending = {.receiver = receiver, .step = thread->process->engine->steps};
+    for (uint64_t i = 0; i < count; i++) {
         binder_size_t offset;
         struct flat_binder_object object;
         memcpy(&offset, parcel->offsets + i * sizeof offset, sizeof offset);

@@ -66,17 +66,22 @@ static bool take(struct purse *purse, uint32_t pieces)
     return true;
 }
 
+/* What it has no use for goes back, and it goes itself once nothing of its process lives. */
+static __attribute__((noinline)) void give_spare_back(struct purse *purse, uint32_t kept)
+{
+    account_give(purse->account, SHARED_CALLS, purse->spare - kept);
+    purse->spare = kept;
+    if (purse->is_left && !purse->living)
+        free(purse);
+}
+
 static void give(struct purse *purse, uint32_t pieces)
 {
     uint32_t kept = purse->is_left ? 0 : PIECES_EACH;
     purse->spare += pieces;
     purse->living--;
-    if (purse->spare > 2 * kept) {
-        account_give(purse->account, SHARED_CALLS, purse->spare - kept);
-        purse->spare = kept;
-    }
-    if (purse->is_left && !purse->living)
-        free(purse);
+    if (purse->spare > 2 * kept)
+        give_spare_back(purse, kept);
 }
 
 void purse_leave(struct process *process)
@@ -184,12 +189,9 @@ void sent_all_end(struct sent_all *all)
 
 /* --- Of a thread. --- */
 
-bool owed_take(struct thread *thread)
+static __attribute__((noinline)) bool owed_change(struct thread *thread, uint32_t owed)
 {
-    uint32_t owed = thread->calling + thread->untold + thread->refusals + thread->clearings;
     struct account *account = thread->process->account;
-    if (owed < thread->owed && thread->owed - owed <= 2 * OWED_EACH)
-        return true;
     uint32_t wanted = (owed / OWED_EACH + 1) * OWED_EACH;
     if (wanted < thread->owed)
         account_give(account, SHARED_OWED, thread->owed - wanted);
@@ -197,6 +199,13 @@ bool owed_take(struct thread *thread)
         return false;
     thread->owed = wanted;
     return true;
+}
+
+/* Few calls have to change what is taken. */
+bool owed_take(struct thread *thread)
+{
+    uint32_t owed = thread->calling + thread->untold + thread->refusals + thread->clearings;
+    return (owed < thread->owed && thread->owed - owed <= 2 * OWED_EACH) || owed_change(thread, owed);
 }
 
 void owed_end(struct thread *thread)

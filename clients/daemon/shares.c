@@ -237,6 +237,14 @@ bool account_take(struct account *account, enum shared what, uint64_t amount)
     return is_taken;
 }
 
+void account_refuse(struct account *account, enum shared what)
+{
+    pthread_mutex_lock(&shares.lock);
+    for (struct account *it = account; it; it = it->above)
+        it->refused[what]++;
+    pthread_mutex_unlock(&shares.lock);
+}
+
 void account_force(struct account *account, enum shared what, uint64_t amount)
 {
     pthread_mutex_lock(&shares.lock);

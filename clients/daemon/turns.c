@@ -357,8 +357,10 @@ const struct payer *turns_count_recorded(struct turns *turns, uint64_t bytes, co
 static void enter(const struct turns *turns, struct queuer *queuer)
 {
     for (; queuer->above && !queuer->has_turn && list_is_empty(&queuer->in_ring); queuer = queuer->above) {
-        uint64_t passed = turns->now > queuer->since ? turns->now - queuer->since : 0;
-        queuer->owed -= passed < queuer->owed ? passed : queuer->owed;
+        if (queuer->owed) {
+            uint64_t passed = turns->now > queuer->since ? turns->now - queuer->since : 0;
+            queuer->owed -= passed < queuer->owed ? passed : queuer->owed;
+        }
         list_append(&queuer->above->ring, &queuer->in_ring);
     }
 }
@@ -444,9 +446,8 @@ uint64_t turns_due_in(const struct turns *turns)
     bool latest_wants = latest && !list_is_empty(&latest->queuer.ring), latest_is_costly = latest_wants && is_costly(turns, latest);
     if (!list_is_empty(&turns->all.ring) || (latest_wants && !latest_is_costly))
         return 0;
-    for (const struct queuer *queuer = latest ? latest->queuer.above : NULL; queuer; queuer = queuer->above)
-        if (!list_is_empty(&queuer->ring))
-            return 0;
+    if (latest && (!list_is_empty(&latest->user->queuer.ring) || !list_is_empty(&latest->user->payer->queuer.ring)))
+        return 0;
     if (!latest_is_costly && list_is_empty(&turns->costly))
         return NO_TURN;
     uint64_t now = nanoseconds(), least = latest_is_costly ? due_in(turns, latest, now) : NO_TURN;
@@ -489,6 +490,30 @@ static struct client *take_first(struct turns *turns)
     return container_of(queuer, struct client, queuer);
 }
 
+/* Which client has the next turn where only such of the latest one's user want any: what is above these would come first again, and stays
+   out of the rings. NULL where it takes more to tell. */
+static struct client *take_of_user(struct turns *turns)
+{
+    struct client *latest = turns->latest;
+    struct queuer *user = latest ? &latest->user->queuer : NULL;
+    if (!user || !user->has_turn || !list_is_empty(&turns->costly) || !list_is_empty(&turns->all.ring) || !list_is_empty(&user->above->ring))
+        return NULL;
+    bool wants = !list_is_empty(&latest->queuer.ring);
+    if (wants ? is_costly(turns, latest) : list_is_empty(&user->ring))
+        return NULL;
+    latest->queuer.has_turn = false;
+    if (wants)
+        enter_client(turns, latest);
+    struct client *client = container_of(first(turns, &user->ring), struct client, queuer);
+    list_remove(&client->queuer.in_ring);
+    client->queuer.has_turn = true;
+    client->references++;
+    user->owed = user->above->owed = 0;
+    turns->is_costly = false;
+    client_release(latest);
+    return client;
+}
+
 /* The same of one that has a costly turn: its account comes last then. */
 static struct client *take_costly(struct turns *turns, struct client *client)
 {
@@ -525,8 +550,8 @@ static void begin_turn(struct turns *turns, struct client *client)
 {
     uint64_t from = client->queuer.from > client->user->queuer.from ? client->queuer.from : client->user->queuer.from;
     uint64_t waited = turns->count - from;
-    if (!turns->is_costly)
-        turns->longest_wait = waited > turns->longest_wait ? waited : turns->longest_wait;
+    if (waited > turns->longest_wait && !turns->is_costly)
+        turns->longest_wait = waited;
     turns->count++;
     turns->steps = 0;
     turns->latest_step = 0;
@@ -540,10 +565,11 @@ static void begin_turn(struct turns *turns, struct client *client)
 static void charge(struct client *client, uint64_t now, uint64_t took)
 {
     struct payer *payer = client->user->payer;
-    for (struct queuer *queuer = &client->queuer; queuer->above; queuer = queuer->above) {
-        queuer->owed += took > TURN_NANOSECONDS ? took - TURN_NANOSECONDS : 0;
-        queuer->since = now;
-    }
+    client->queuer.since = client->user->queuer.since = payer->queuer.since = now;
+    if (took <= TURN_NANOSECONDS)
+        return;
+    for (struct queuer *queuer = &client->queuer; queuer->above; queuer = queuer->above)
+        queuer->owed += took - TURN_NANOSECONDS;
     if (took <= COSTLY_NANOSECONDS)
         return;
     if (took > DEAR_NANOSECONDS && now - client->was_dear < MEMORY_NANOSECONDS)
@@ -557,7 +583,8 @@ static void charge(struct client *client, uint64_t now, uint64_t took)
 static void end_turn(struct turns *turns, struct client *client)
 {
     uint64_t now = nanoseconds(), took = now - turns->began;
-    turns->longest_turn = turns->steps > turns->longest_turn ? turns->steps : turns->longest_turn;
+    if (turns->steps > turns->longest_turn)
+        turns->longest_turn = turns->steps;
     if (took > COSTLY_NANOSECONDS) {
         took = time_taken(turns, now);
         note_time(turns, took);
@@ -572,18 +599,27 @@ static void end_turn(struct turns *turns, struct client *client)
         turns->longest_end = took;
 }
 
-void turns_give(struct turns *turns)
+/* Which client has the next turn of all. NULL: none may have one now. */
+static struct client *take(struct turns *turns)
 {
     readmit(turns);
     bool has_other = !list_is_empty(&turns->all.ring);
     struct client *costly = has_other && turns->is_costly ? NULL : next_costly(turns);
     if (!costly && !has_other)
-        return;
-    struct client *client = costly ? take_costly(turns, costly) : take_first(turns);
-    struct watch *watch = container_of(client->queuer.ring.next, struct watch, in_watches);
-    client->references++;
-    list_remove(&watch->in_watches);
+        return NULL;
     turns->is_costly = costly;
+    struct client *client = costly ? take_costly(turns, costly) : take_first(turns);
+    client->references++;
+    return client;
+}
+
+void turns_give(struct turns *turns)
+{
+    struct client *client = take_of_user(turns);
+    if (!client && !(client = take(turns)))
+        return;
+    struct watch *watch = container_of(client->queuer.ring.next, struct watch, in_watches);
+    list_remove(&watch->in_watches);
     begin_turn(turns, client);
     turns->latest = client;
     watch->ready(watch);

@@ -8,6 +8,7 @@ of the trace what tells which transaction is which.
 The moment is by the clock of the recording, as `hullpippin judge` tells where it is stuck. A call that hadn't come back then never does.
 """
 import glob
+import os
 import re
 import struct
 import sys
@@ -64,6 +65,15 @@ def of_trace(lines, tids, until):
             yield f"-{found[1]}[ {found[2]}.{found[3]}: binder_{found[4]}:{''.join(f' {it}' for it in words)}\n"
 
 
+def trace_of(recording, tids, until):
+    """The beginning of the kernel's trace; nothing where it wasn't switched on."""
+    if not os.path.exists(f"{recording}/trace"):
+        return b""
+    with open(f"{recording}/trace", encoding="utf-8", errors="replace") as file:
+        trace = "".join(of_trace(file, tids, until)).encode()
+    return b"HPTRACE1" + struct.pack("<Q", len(trace)) + trace
+
+
 def main():
     if len(sys.argv) != 4:
         print("usage: beginning.py RECORDING MICROSECONDS FILE", file=sys.stderr)
@@ -76,10 +86,8 @@ def main():
         if kept:
             threads += kept
             tids.add(int(path.split(".")[-2]))
-    with open(f"{recording}/trace", encoding="utf-8", errors="replace") as file:
-        trace = "".join(of_trace(file, tids, until)).encode()
     with open(sys.argv[3], "wb") as file:
-        file.write(threads + b"HPTRACE1" + struct.pack("<Q", len(trace)) + trace)
+        file.write(threads + trace_of(recording, tids, until))
     return 0
 
 

@@ -15,7 +15,7 @@ differences have it, and in how many neither.
 
 The kernel is fetched into FOLDER (clients/out/kernel). What was played stays in --keep FOLDER: the same words go on where a run was
 broken off, or had no more than --seconds. --only plays what has WORD in its name, as "kind". --document writes what was seen into
-docs/DIFFERENCES.md. With --model the driver is left out, and with it the network and the machine: only the rules are judged, beside
+docs/DIFFERENCES.md; of what is unknown how many there are, in the table of drivers. With --model the driver is left out, and with it the network and the machine: only the rules are judged, beside
 the player. Needs tool/setup's hullpippin, or the one that HULLPIPPIN names.
 """
 import argparse
@@ -191,9 +191,9 @@ def main():
         print(f"FAIL {name}: kinds/{name}.script doesn't show it")
     for name, those in met.items():
         print(f"{len(those):5}  {name}: {DIFFERENCES[name].driver}")
-    if given.document and not unknown and not wrong and not given.only:
+    if given.document and not wrong and not given.only:
         run = document.Run(kernel.version, given, all_cases, met, agree, differ)
-        if os.path.abspath(given.kernel) == default_folder():
+        if os.path.abspath(given.kernel) == default_folder() and not unknown:
             document.write(ROOT, "the run", document.text_of(run))
         document.write_cells(ROOT, "drivers", kernel.version, {"Scripts": f"{agree} agree, {differ} in named ways, {unknown} unknown"})
     print(f"kernel: {agree} agree, {differ} differ in named ways, {unknown + wrong} unknown")

@@ -66,14 +66,18 @@ LOAD="./lib/ld-linux-x86-64.so.2 --library-path lib"
 $LOAD ./hullpippind --socket $HULLPIPPIN_SOCKET --background
 for bytes in {sizes}; do
     echo "driver one $bytes: $(./raw/latency {calls} $bytes)"
+    mkdir -p /tmp/recorded-$bytes
+    echo "recorded one $bytes: $(HULLPIPPIN_RECORD=/tmp/recorded-$bytes $LOAD --preload ./libhullpippin-record.so ./dynamic/latency {calls} $bytes)"
     echo "daemon one $bytes: $($LOAD --preload ./libhullpippin-preload.so ./dynamic/latency {calls} $bytes)"
     echo "driver many $bytes: $(./raw/many 8 4 {calls} $bytes)"
     echo "daemon many $bytes: $($LOAD --preload ./libhullpippin-preload.so ./dynamic/many 8 4 {calls} $bytes)"
 done
 """
 BYTES = ["0", "4096", "262144"]
+OF_CLIENTS = ["hullpippind", "libhullpippin-preload.so", "libhullpippin-record.so"]
 # what is measured, as its line begins: what it is, and which of the figures that it tells counts
 MEASURED = {"driver one": ("the driver, one client, answered with nothing", "median"),
+            "recorded one": ("the driver, one client that is recorded without the trace, answered with nothing", "median"),
             "daemon one": ("the daemon, one client, answered with nothing", "median"),
             "driver many": ("the driver, eight callers, four threads that answer with the same bytes", "call"),
             "daemon many": ("the daemon, eight callers, four threads that answer with the same bytes", "call")}
@@ -114,14 +118,14 @@ def library(name):
 
 def add_daemon(folder):
     """The daemon, the library and the raw tests for it, with the loader and the C library that they were built for."""
-    make(CLIENTS, "out/hullpippind", "out/libhullpippin-preload.so")
+    make(CLIENTS, *(f"out/{name}" for name in OF_CLIENTS))
     make(f"{CLIENTS}/tests", "raw")
     shutil.copytree(f"{CLIENTS}/tests/out/raw", f"{folder}/dynamic")
     os.makedirs(f"{folder}/lib")
     for name in ("ld-linux-x86-64.so.2", "libc.so.6"):
         shutil.copy(library(name), f"{folder}/lib/{name}")
-    for path in (f"{CLIENTS}/out/hullpippind", f"{CLIENTS}/out/libhullpippin-preload.so"):
-        shutil.copy(path, folder)
+    for name in OF_CLIENTS:
+        shutil.copy(f"{CLIENTS}/out/{name}", folder)
 
 
 def script_of_tests(folder, packages):

@@ -20,7 +20,6 @@ import glob
 import os
 import random
 import re
-import resource
 import shutil
 import struct
 import subprocess
@@ -69,7 +68,8 @@ SPOILED_TRIES = 300_000
 USED = struct.Struct("<8sQ")
 HEAD, RECORD = 64, struct.Struct("<IIQQ")
 WRITE_READ = 4
-VERDICT = re.compile(r"(\d+) processes, (\d+) threads, (\d+) steps: (lawful|unlawful|unknown)(?:, with (.*))?")
+VERDICT = re.compile(r"(\d+) processes, (\d+) threads, (\d+) steps: (lawful|unlawful|unknown)(?:, with ([a-z0-9_, ]*[a-z0-9_]))?")
+SECONDS = re.compile(r", ([0-9.]+) s$", re.M)
 
 
 def runs_of(given):
@@ -127,14 +127,12 @@ def shorten(path):
 
 def judged(given, recording, journal, *words):
     """The verdict, the switches, how many steps and threads, seconds of a processor, and all that was said."""
-    before = resource.getrusage(resource.RUSAGE_CHILDREN).ru_utime
     done = subprocess.run(["nice", "-n", "10", given.judge, "judge", recording, "--journal", journal, "--most", "64", *words],
                           capture_output=True, text=True, stdin=subprocess.DEVNULL, timeout=1800)
-    seconds = resource.getrusage(resource.RUSAGE_CHILDREN).ru_utime - before
-    found = VERDICT.match(done.stdout)
-    if not found:
+    found, seconds = VERDICT.match(done.stdout), SECONDS.search(done.stdout)
+    if not found or not seconds:
         raise NotRun(f"{recording}: {done.stdout}{done.stderr}")
-    return found[4], found[5] or "", int(found[3]), int(found[2]), seconds, done.stdout
+    return found[4], found[5] or "", int(found[3]), int(found[2]), float(seconds[1]), done.stdout
 
 
 def player_says(given, journal):
@@ -223,8 +221,8 @@ def spoil(recording, dice):
 
 
 def judge_spoiled(given, folder, recordings):
-    """How many there were, how many of them are called lawful, and how many of those aren't lawful for certain."""
-    dice, lawful, doubtful, count = random.Random(given.seed), 0, 0, 0
+    """How many there were, which of them are called lawful, with what was spoiled, and how many of those aren't lawful for certain."""
+    dice, lawful, doubtful, count = random.Random(given.seed), [], 0, 0
     names = ["nested", "deaths", "many-4-3-50", "latency-50"]
     while count < given.spoiled:
         name = names[count % len(names)]
@@ -239,23 +237,26 @@ def judge_spoiled(given, folder, recordings):
         verdict, ways, *_ = judged(given, spoiled, journal, "--tries", str(SPOILED_TRIES))
         if verdict == "lawful":
             player = player_says(given, journal) if not ways and given.bplay else ""
-            lawful, doubtful = lawful + 1, doubtful + (not player.startswith("lawful "))
+            doubtful += not player.startswith("lawful ")
+            lawful.append(f"{name}, {how}")
             print(f"{'ok  ' if player.startswith('lawful ') else 'FAIL'} spoiled {name}, {how}: lawful{', with ' + ways if ways else ''}"
                   f"{', and by the player: ' + player if player else ''}", flush=True)
             if given.keep:
                 shutil.copytree(spoiled, f"{given.keep}/spoiled-{count}", dirs_exist_ok=True)
-    print(f"{count} spoiled recordings, {lawful} of them called lawful, {doubtful} of these not so for certain")
+    print(f"{count} spoiled recordings, {len(lawful)} of them called lawful, {doubtful} of these not so for certain")
     return count, lawful, doubtful
 
 
 # ------------------------------------------------------------ what is told
 
 def group(seen, word):
-    """Of the recordings whose names begin so: how many, how many judged, the most steps and threads, the longest that was judged."""
+    """Of the recordings whose names begin so: how many, how many judged, the least and the most steps, the most threads, the most seconds of
+    those that were judged and of all."""
     its = [it for it in seen if it[0].startswith(word)]
     good = [it for it in its if it[3] == "lawful"]
     steps = [it[2] for it in its] or [0]
-    return len(its), len(good), min(steps), max(steps), max([it[1] for it in its] or [0]), max([it[5] for it in good] or [0])
+    seconds = [f"{max([it[5] for it in those] or [0]):.1f}" for those in (good, its)]
+    return len(its), len(good), min(steps), max(steps), max([it[1] for it in its] or [0]), *seconds
 
 
 def needs_of(seen):
@@ -270,22 +271,25 @@ def needs_of(seen):
 def spoiled_told(spoiled):
     """What is told of spoiled recordings."""
     count, lawful, doubtful = spoiled
-    return f"{lawful} of {count}, {lawful - doubtful} so for certain" if lawful else f"0 of {count}"
+    return f"{len(lawful)} of {count}, {len(lawful) - doubtful} so for certain" if lawful else f"0 of {count}"
 
 
 def tell(given, version, seen, spoiled):
-    lines = [(name, str(threads), str(steps), verdict, ways or "none", player) for name, threads, steps, verdict, ways, _, player in seen
-             if not name.startswith(("storm", "crowd"))]
+    lines = [(name, str(threads), str(steps), verdict, ways or "none", f"{seconds:.1f}", player)
+             for name, threads, steps, verdict, ways, seconds, player in seen if not name.startswith(("storm", "crowd"))]
     suite = f" --suite {given.suite}" if given.suite != SUITE else ""
     numbers = f"--storms {given.storms} --crowds {given.crowds} --calls {given.calls} --seed {given.seed} --spoiled {given.spoiled}"
     text = [f"Seen on {version}, by `clients/check kernel traffic{suite} {numbers}`.\n"]
-    text += document.table(["Raw client, untraced", "Threads", "Steps", "Verdict", "Differences needed", "The player, of the order"], lines)
+    text += document.table(["Raw client, untraced", "Threads", "Steps", "Verdict", "Differences needed", "Seconds", "The player, of the order"], lines)
     text.append("")
     rows = [(name, *group(seen, word)) for name, word in (("storms of three processes", "storm"), ("crowds of four, with two loopers each", "crowd"))]
-    text += document.table(["With tracepoints", "Recordings", "Judged lawful", "Least steps", "Most", "Threads up to", "Seconds at most of those judged"],
-                           [(*map(str, it[:-1]), f"{it[-1]:.1f}") for it in rows])
-    text += ["", f"Those that were judged need, in so many: {needs_of(seen)}.",
-             f"Spoiled recordings of raw clients that were called lawful: {spoiled_told(spoiled)}, since the player plays their orders too."]
+    text += document.table(["With tracepoints", "Recordings", "Judged lawful", "Least steps", "Most", "Threads up to",
+                            "Seconds at most, of those judged", "Of all"], [tuple(map(str, it)) for it in rows])
+    text += ["", "Seconds are of a processor, by `judge`'s own count." , f"Those that were judged need, in so many: {needs_of(seen)}.",
+             f"Spoiled recordings of raw clients that were called lawful: {spoiled_told(spoiled)}, since the player plays their orders too"
+             f"{': ' + '; '.join(spoiled[1]) if spoiled[1] else ''}."]
+    text += [f"{name} wasn't judged, after {seconds:.1f} s and {steps} steps." for name, _, steps, verdict, _, seconds, _ in seen
+             if verdict != "lawful"]
     return "\n".join(text)
 
 
@@ -294,7 +298,8 @@ def cells_of(seen, spoiled):
     raw = [it for it in seen if not it[0].startswith(("storm", "crowd"))]
     storms, crowds = (group(seen, word)[:2] for word in ("storm", "crowd"))
     return {"Raw clients lawful": f"{sum(it[3] == 'lawful' for it in raw)} of {len(raw)}", "Storms": f"{storms[1]} of {storms[0]}",
-            "Crowds": f"{crowds[1]} of {crowds[0]}", "Differences needed by both": needs_of(seen),
+            "Crowds": f"{crowds[1]} of {crowds[0]}", "Seconds at most of both": group(seen, ("storm", "crowd"))[-1],
+            "Differences needed by both": needs_of(seen),
             "Spoiled ones called lawful": spoiled_told(spoiled)}
 
 
@@ -332,7 +337,7 @@ def main():
     try:
         if not given.kept:
             record(given, Kernel(os.path.abspath(given.kernel), given.suite), folder)
-        if given.keep:
+        if given.keep and os.path.realpath(given.keep) != os.path.realpath(recordings):
             shutil.copytree(recordings, given.keep, dirs_exist_ok=True)
         version, told = told_of(recordings)
         seen, wrong = judge_all(given, folder, recordings, told)

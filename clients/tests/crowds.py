@@ -33,8 +33,11 @@ MOST_TURNS, PERSONS_CALLS = 32, 1000
 # costly turns of an account take at most such a part of the time, a third but for what is made before it is told
 LEAST_TURN_TIME, MOST_TURN_TIME, MOST_COSTLY = 10, 1000, 0.38
 HEAVY_ROUNDS = 5
+# What a turn takes of a processor is so many times as much where that is a slow one, or its other half is busy. The price of a parcel of
+# 8,192 objects, or of an end that isn't divided, is still above the bound.
+SLOW_MACHINE = 3
 # how much a process holds that ends, and how long a turn of its end may be, in microseconds
-HELD, MOST_END_TIME, ENDING_ROUNDS = 32768, 5000, 2
+HELD, MOST_END_TIME, ENDING_ROUNDS = 32768, 5000, 4
 # processes that connect and hang up; each time takes at most such a part of the daemon's time for an open
 COMERS, MOST_HANGUP = "8", 0.125
 # descriptors of a device that somebody has opened: an epoll, a bell, and its latest steps
@@ -120,7 +123,14 @@ def slice_of(uid):
 
 
 def turns_for_a_call(build, program, words):
-    """How many turns are given for each call of somebody beside so many users."""
+    """How many turns are given for each call of somebody beside so many users, at least: while he has no processor there are more."""
+    found = []
+    while len(found) < ROUNDS and min(found, default=MOST_TURNS + 1) > MOST_TURNS:
+        found.append(turns_for_each(build, program, words))
+    return min(found)
+
+
+def turns_for_each(build, program, words):
     with Stage(build, daemon=program) as stage:
         let_others_in(stage)
         rings = stage.start([build.fuzz("rings"), "persons", str(PERSONS), DEVICE, *words], client=False).wait_for("ready", 30)
@@ -171,6 +181,11 @@ def stats(stage, build):
     return subprocess.run(words, capture_output=True, text=True, timeout=30, env={**os.environ, **build.environment}).stdout
 
 
+def most_time(build, microseconds):
+    """A bound on a turn's time: the wanted one where times are judged, else one that a slow machine keeps too."""
+    return microseconds * (SLOW_MACHINE if build.untimed else 1)
+
+
 def turns_given(stage, build):
     return int(re.search(r"^turns: (\d+)", stats(stage, build), re.M)[1])
 
@@ -194,7 +209,7 @@ def heavy(build, words):
             longest, costly, put_off = asked(stage, build)
         found = figures(told)
         runs.append((longest, costly / 1e6 / found["seconds"], put_off, found["beside"] / found["alone"], told))
-        if longest <= MOST_TURN_TIME and runs[-1][3] <= HOSTILE_TIMES:
+        if longest <= most_time(build, MOST_TURN_TIME) and runs[-1][3] <= HOSTILE_TIMES:
             break
     return min(runs)
 
@@ -207,7 +222,7 @@ def heavy_parcels(build):
     for words in (["8192"], ["256"], *([["256", "1", NOBODY]] if os.geteuid() == 0 else []), ["256", "48"]):
         longest, part, put_off, times, told = heavy(build, words)
         lines.append(f"{' '.join(words)}: {told}; {longest} us in a turn, {part:.2f} of the time in costly ones, {put_off} put off")
-        expect(words[1:] == ["48"] or LEAST_TURN_TIME < longest <= MOST_TURN_TIME, lines[-1])
+        expect(words[1:] == ["48"] or LEAST_TURN_TIME < longest <= most_time(build, MOST_TURN_TIME), lines[-1])
         expect(part <= MOST_COSTLY, lines[-1])
         expect(put_off or words[1:] != ["48"], lines[-1])
         expect(build.untimed or times <= HOSTILE_TIMES, lines[-1])
@@ -228,9 +243,13 @@ def ends_in_parts(build):
     """Who holds many objects, or has asked to hear of as many deaths, gives them back some at a time as it ends."""
     lines = []
     for kind in ("handles", "deaths"):
-        longest, told = min(longest_end(build, kind) for _ in range(ENDING_ROUNDS))
+        longest, told = longest_end(build, kind)
+        for _ in range(ENDING_ROUNDS):
+            if longest <= most_time(build, MOST_END_TIME):
+                break
+            longest, told = min((longest, told), longest_end(build, kind))
         lines.append(f"{HELD} {kind}: {longest} us in a turn, the longest call {told.split()[-1]} us")
-        expect(longest <= MOST_END_TIME, lines[-1])
+        expect(longest <= most_time(build, MOST_END_TIME), lines[-1])
     return "; ".join(lines)
 
 

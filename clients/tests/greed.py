@@ -62,11 +62,31 @@ def greed(build):
     return ", ".join(told)
 
 
-def while_used(stage, comes):
-    """Waits until the daemon's log says something."""
-    end = time.monotonic() + 10
-    while not comes(stage.daemon.printed()):
-        expect(stage.daemon.runs() and time.monotonic() < end, f"the daemon: {tail(stage.daemon.printed())}")
+# objects that a process may own at a time, whatever its share
+OWNED = 32768
+
+
+@test("raw owners", plain_only=True)
+def owners(build):
+    """However much memory there is, a process owns no more objects than what its end, which is one step, takes little time for."""
+    with Stage(build) as stage:
+        serves(stage, build)
+        files = open_files(stage.daemon.pid)
+        greedy, _ = take_all(stage, build, "objects")
+        of = shares_in(asked(build, stage, ["--state", DEVICES[0]]))[f"account {os.geteuid()}"]
+        owned, refused = of["objects"]
+        expect(0 < owned <= OWNED * len(DEVICES) and refused, f"{len(DEVICES)} open files own {owned} objects, {refused} times refused")
+        greedy.kill()
+        back_to(stage, files)
+        serves(stage, build)
+    return f"{len(DEVICES)} open files own {owned} objects, and were refused more {refused} times"
+
+
+def while_used(stage, comes, seconds=10):
+    """Waits until the daemon's log says something, while no device ends for want of memory."""
+    end = time.monotonic() + seconds
+    while not comes(printed := stage.daemon.printed()):
+        expect(stage.daemon.runs() and time.monotonic() < end and "the device ends" not in printed, f"the daemon: {tail(printed)}")
         time.sleep(0.05)
 
 
@@ -99,7 +119,7 @@ def remains(build):
 
 @test("raw set aside", plain_only=True)
 def set_aside(build):
-    """Who has much ends also where no memory is left but what is set aside for that; then there is some again."""
+    """Who has much ends also where no memory is left but what is set aside for that; with what the end gives back there is some again."""
     with Stage(build) as stage:
         let_others_in(stage)
         greedy, taken = take_all(stage, build, "deaths")
@@ -108,10 +128,10 @@ def set_aside(build):
         resource.prlimit(stage.daemon.pid, resource.RLIMIT_AS, (used, resource.RLIM_INFINITY))
         greedy.kill()
         while_used(stage, lambda printed: "but what was set aside" in printed)
+        while_used(stage, lambda printed: printed.count("but what was set aside") == printed.count("set aside again"), 45)
         resource.prlimit(stage.daemon.pid, resource.RLIMIT_AS, (resource.RLIM_INFINITY, resource.RLIM_INFINITY))
-        while_used(stage, lambda printed: printed.count("but what was set aside") == printed.count("set aside again"))
-        expect("the device ends" not in stage.daemon.printed(), f"the daemon: {tail(stage.daemon.printed())}")
         serves(stage, build)
+        expect("the device ends" not in stage.daemon.printed(), f"the daemon: {tail(stage.daemon.printed())}")
     return f"the owner of {taken:.0f} watched objects has ended, and others are served"
 
 

@@ -196,6 +196,20 @@ def busy_at(path):
     return [listening, *waiting]
 
 
+# .. and one that has the library's patience, on a busy machine
+LATE = 20
+
+
+def untaken(build, where):
+    """Who listens and takes nobody keeps a program waiting for no longer than the library has patience."""
+    kept = busy_at(f"{where}/busy")
+    env = environment(build, HULLPIPPIN_SOCKET=f"{where}/busy", LD_PRELOAD=build.preload)
+    done = subprocess.run([build.raw("versions")], env=env, capture_output=True, text=True, timeout=LATE, stdin=subprocess.DEVNULL)
+    expect(done.returncode == 1 and "can't open" in done.stderr, f"a program whom nobody takes: {done.returncode}, {done.stdout}{done.stderr}")
+    for it in kept:
+        it.close()
+
+
 def unreached(build, why, env, **how):
     """No daemon is reached, and that is known soon."""
     begin = time.monotonic()
@@ -271,7 +285,7 @@ def addresses(build):
         copied = Copied(build, programs)
         with folder() as where:
             own_folders(copied, where)
-        for part in (who_may_come, given, *([] if os.geteuid() else [of_others, of_liars, in_order])):
+        for part in (who_may_come, given, untaken, *([] if os.geteuid() else [of_others, of_liars, in_order])):
             with folder() as where:
                 os.chmod(where, 0o711)
                 part(copied, where)

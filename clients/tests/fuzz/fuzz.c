@@ -48,6 +48,7 @@ static void start(struct playing *playing, uint64_t seed, size_t act)
     playing->pid = pid > 0 ? pid : 0; /* where none can be made there is none: -1 would stand for all that may be killed */
     if (pid)
         return;
+    hostile_patience = LONGEST_MS;
     prctl(PR_SET_PDEATHSIG, SIGKILL);
     if (getppid() != parent)
         _exit(1);

@@ -18,10 +18,7 @@
 static bool becomes_manager(struct hostile *hostile)
 {
     hostile->page->request = (struct page_request){.op = PAGE_SET_MANAGER, .flags = PAGE_TAKES_DESCRIPTORS};
-    bool is_answered = hostile_ask(hostile, 900);
-    for (int i = 0; i < 5000 && !is_answered; i++, usleep(1000)) /* a busy daemon takes its time */
-        is_answered = atomic_load(&hostile->page->state) == PAGE_ANSWERED;
-    return is_answered && !hostile->page->answer.error;
+    return hostile_await(hostile) && !hostile->page->answer.error;
 }
 
 /* In a child, which has its parent's connection. */

@@ -61,11 +61,9 @@ static bool write_all(struct hostile *hostile, const void *stream, size_t size)
 {
     memcpy(hostile->page->stream, stream, size);
     hostile->page->request = (struct page_request){PAGE_WRITE_READ, (uint32_t)size, PAGE_RETURNS, PAGE_NONBLOCK, 0};
-    if (!hostile_ask(hostile, 900))
-        for (int i = 0; i < 20 && atomic_load(&hostile->page->state) == PAGE_ASKED; i++)
-            usleep(50000);
+    bool is_answered = hostile_await(hostile);
     const struct page_answer answer = hostile->page->answer;
-    return atomic_load(&hostile->page->state) == PAGE_ANSWERED && (!answer.error || answer.error == EAGAIN) && answer.consumed == size
+    return is_answered && (!answer.error || answer.error == EAGAIN) && answer.consumed == size
            && !is_refused(hostile);
 }
 
@@ -75,7 +73,7 @@ static bool begin_taker(struct hostile *it, const char *device)
         return false;
     const uint32_t loop = BC_ENTER_LOOPER;
     it->page->request = (struct page_request){.op = PAGE_SET_MANAGER};
-    return hostile_ask(it, 900) && !it->page->answer.error && write_all(it, &loop, sizeof loop);
+    return hostile_await(it) && !it->page->answer.error && write_all(it, &loop, sizeof loop);
 }
 
 /* Gives the buffer of the call back that the latest read got, if it got one. */

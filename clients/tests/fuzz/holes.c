@@ -44,7 +44,7 @@ int main(int argc, char **argv)
     if (!hostile_connect(&manager) || !hostile_open(&manager, "/dev/binder") || !hostile_map(&manager, WINDOW_MAX) || !hostile_thread(&manager))
         return fail("no manager");
     manager.page->request = (struct page_request){.op = PAGE_SET_MANAGER};
-    if (!hostile_ask(&manager, 900) || manager.page->answer.error)
+    if (!hostile_await(&manager) || manager.page->answer.error)
         return fail("it isn't the context manager");
     if (!hostile_begin(&caller, "/dev/binder"))
         return fail("no client");
@@ -53,7 +53,7 @@ int main(int argc, char **argv)
             return fail("no thread");
         memcpy(caller.page->stream, &call, sizeof call);
         caller.page->request = (struct page_request){PAGE_WRITE_READ, sizeof call, 0, 0, 0};
-        if (!hostile_ask(&caller, 900) || caller.page->answer.error)
+        if (!hostile_await(&caller) || caller.page->answer.error)
             return fail("a call isn't run");
         size_t there = there_of(caller.page_memory);
         most = there > most ? there : most;

@@ -15,6 +15,10 @@
 #include <unistd.h>
 
 #define MOST_DESCRIPTORS 253
+/* A look at the page is never further away than so many milliseconds. */
+#define LOOKS_EACH 100u
+
+unsigned hostile_patience = 30000;
 
 static uint64_t state;
 
@@ -105,7 +109,7 @@ static bool ask(struct hostile *hostile, const struct control_request *request, 
 bool hostile_connect(struct hostile *hostile)
 {
     struct sockaddr_un address = {.sun_family = AF_UNIX};
-    struct timeval patience = {.tv_usec = 500000};
+    struct timeval patience = {hostile_patience / 1000, hostile_patience % 1000 * 1000};
     const char *path = getenv("HULLPIPPIN_SOCKET");
     *hostile = (struct hostile){-1, -1, -1, -1, -1, NULL};
     snprintf(address.sun_path, sizeof address.sun_path, "%s", path ? path : "");
@@ -183,6 +187,17 @@ bool hostile_ask(struct hostile *hostile, unsigned milliseconds)
     if (milliseconds && atomic_load(&hostile->page->state) == PAGE_ASKED)
         syscall(SYS_futex, &hostile->page->state, FUTEX_WAIT, PAGE_ASKED, &while_, NULL, 0);
     return atomic_load(&hostile->page->state) == PAGE_ANSWERED;
+}
+
+bool hostile_await(struct hostile *hostile)
+{
+    const struct timespec moment = {.tv_nsec = LOOKS_EACH * 1000000L};
+    bool is_answered = hostile_ask(hostile, 0);
+    for (unsigned waited = 0; !is_answered && waited < hostile_patience; waited += LOOKS_EACH) {
+        syscall(SYS_futex, &hostile->page->state, FUTEX_WAIT, PAGE_ASKED, &moment, NULL, 0);
+        is_answered = atomic_load(&hostile->page->state) == PAGE_ANSWERED;
+    }
+    return is_answered;
 }
 
 bool hostile_write(struct hostile *hostile, const void *stream, size_t size, uint32_t room, uint32_t descriptors)

@@ -26,6 +26,10 @@ uint32_t below(uint32_t bound);
 uint64_t odd_number(void);
 void fill(void *at, size_t size);
 
+/* So many milliseconds an answer is waited for that has to come: a busy machine takes its time. Clients that are answered by chance wait
+   less. */
+extern unsigned hostile_patience;
+
 /* Connects, opens a device, maps a window, and becomes a thread; each needs the one before it. */
 bool hostile_connect(struct hostile *hostile);
 bool hostile_open(struct hostile *hostile, const char *device);
@@ -43,7 +47,9 @@ bool hostile_send(int socket, const void *bytes, size_t size, size_t descriptors
 bool hostile_ring(struct hostile *hostile);
 /* Asks for what stands in the page, and waits a moment for an answer: whether one came. */
 bool hostile_ask(struct hostile *hostile, unsigned milliseconds);
-/* The same for a stream of commands. */
+/* The same, and waits until an answer has come, which has to. */
+bool hostile_await(struct hostile *hostile);
+/* Asks for a stream of commands to be run. */
 bool hostile_write(struct hostile *hostile, const void *stream, size_t size, uint32_t room, uint32_t descriptors);
 
 /* Writes commands that are nearly right, and a parcel for them, into the page; tells the size of the stream. */

@@ -69,7 +69,7 @@ static void begin(struct hostile *receiver)
     const uint32_t enter = BC_ENTER_LOOPER;
     CHECK(hostile_begin(receiver, DEVICE), "no daemon");
     receiver->page->request = (struct page_request){.op = PAGE_SET_MANAGER};
-    CHECK(hostile_ask(receiver, 900) && !receiver->page->answer.error, "can't be the context manager");
+    CHECK(hostile_await(receiver) && !receiver->page->answer.error, "can't be the context manager");
     writes(receiver, &enter, sizeof enter, 0);
 }
 

@@ -12,8 +12,6 @@
 #include <stdlib.h>
 #include <string.h>
 #include <sys/prctl.h>
-#include <sys/socket.h>
-#include <sys/time.h>
 #include <unistd.h>
 
 #define THREADS_MOST 64
@@ -32,15 +30,9 @@ static unsigned long lying_in(int socket)
     return count;
 }
 
-/* Has what stands in the page done, however busy the machine is. */
 static void ask(struct hostile *hostile)
 {
-    bool is_answered = hostile_ask(hostile, 900);
-    for (int i = 0; i < 20 && !is_answered; i++) {
-        usleep(250000);
-        is_answered = atomic_load(&hostile->page->state) == PAGE_ANSWERED;
-    }
-    CHECK(is_answered, "there is no answer");
+    CHECK(hostile_await(hostile), "there is no answer");
 }
 
 static void ask_to_write(struct hostile *hostile, const void *stream, size_t size, uint32_t room, uint32_t descriptors)
@@ -85,6 +77,15 @@ static void read_and_free(struct hostile *reader)
     memcpy(&call, reader->page->returns + 8, sizeof call);
     done.buffer = call.data.ptr.buffer;
     ask_to_write(reader, &done, sizeof done, 0, 0);
+}
+
+/* What was sent before counts until it is closed, which takes its time on a busy machine; till then the share may have no room. */
+static void join(struct hostile *reader)
+{
+    for (unsigned waited = 0; !hostile_thread(reader); waited += 10) {
+        CHECK(waited < hostile_patience, "no thread");
+        usleep(10000);
+    }
 }
 
 static void become(uid_t user)
@@ -158,14 +159,13 @@ int main(int argc, char **argv)
     if (user)
         become(user);
     CHECK(hostile_begin(&readers[0], argv[1]), "no client");
-    /* The daemon answers, however busy the machine is: what is judged is what lies in the links. */
-    CHECK(!setsockopt(readers[0].control, SOL_SOCKET, SO_RCVTIMEO, &(struct timeval){.tv_sec = 30}, sizeof(struct timeval)), "no patience");
     readers[0].page->request = (struct page_request){.op = PAGE_SET_MANAGER, .flags = PAGE_TAKES_DESCRIPTORS};
     ask(&readers[0]);
     CHECK(!readers[0].page->answer.error, "no context manager");
     for (size_t i = 0; i < threads; i++) {
         readers[i].control = readers[0].control;
-        CHECK(!i || hostile_thread(&readers[i]), "no thread");
+        if (i)
+            join(&readers[i]);
         ask_to_write(&readers[i], &loops, sizeof loops, 0, 0);
         for (size_t j = 0; j < rounds && has_done(&sender); j++)
             read_and_free(&readers[i]);
