@@ -13,10 +13,8 @@
 //!     let mut driver = Driver::new(2)?;
 //!     let seats = [driver.take_seat()?, driver.take_seat()?];
 //!     let threads = seats.map(|mut seat| thread::spawn(move || {
-//!         // Whom another thread keeps away is answered with `Back`, and calls again.
-//!         while seat.open(100 + seat.number(), 1000, 4096).expect("a call").answer().is_none() {
-//!             thread::yield_now();
-//!         }
+//!         // Whom another thread keeps away is answered with `Back`. `insist` then makes the request again.
+//!         seat.insist(|seat| seat.open(100 + seat.number(), 1000, 4096)).expect("a call");
 //!         seat
 //!     }));
 //!     for seat in threads {
@@ -47,6 +45,7 @@ mod refusals;
 mod returns;
 mod space;
 mod status;
+mod waiting;
 
 pub use answers::{Answer, Outcome, Request, Stop, Why};
 pub use bridges::Signal;

@@ -2,9 +2,10 @@
 //! Runs over the library: what this crate spells is what the engine reads, and the other way round.
 use hullpippin::{
     call_of_reply, chain_of, turns_of, verdict_on, Answer, Cause, Command, Driver, Error, Fault, FlatObject, Kept, Live, Note,
-    ObjectId, Outcome, Parcel, Request, Return, Signal, Stop, TodoList, TransactionData, Turn, Verdict, Why, Work, ONE_WAY,
+    ObjectId, Outcome, Parcel, Request, Return, Seat, Signal, Stop, TodoList, TransactionData, Turn, Verdict, Why, Work, ONE_WAY,
 };
 use hullpippin_sys as sys;
+use std::thread;
 
 /// The text that the library has for a number of a kind.
 fn text_of(kind: u32, number: u32) -> String {
@@ -243,6 +244,29 @@ fn what_came_back_is_made_again() {
     assert_eq!(seat.withdraw(), Ok(Outcome::Back(Why::Withdrawn)));
     assert_eq!(seat.again().expect("a call").answer(), Some(Answer::Opened));
     assert_eq!(seat.again(), Err(Error::NothingBack));
+}
+
+/// Eight threads want the engine at once: each request of each is answered, and the history has just these.
+#[test]
+fn who_insists_is_answered() {
+    const TIMES: usize = 200;
+    let mut driver = Driver::new(8).expect("a driver");
+    let seats: Vec<Seat> = (0..8).map(|_| driver.take_seat().expect("a seat")).collect();
+    let asks = |mut seat: Seat| {
+        let outcome = seat.insist(|seat| seat.open(100 + seat.number(), 1000, 4096)).expect("a call");
+        assert_eq!(outcome.answer(), Some(Answer::Opened));
+        for _ in 1..TIMES {
+            let outcome = seat.insist(|seat| seat.read(256)).expect("a call");
+            assert_eq!(outcome.answer(), Some(Answer::Refused(Fault::Again)));
+        }
+        seat
+    };
+    let threads: Vec<_> = seats.into_iter().map(|seat| thread::spawn(move || asks(seat))).collect();
+    for seat in threads {
+        driver.return_seat(seat.join().expect("no thread panics")).expect("the driver's own");
+    }
+    let journal = driver.finish().expect("all seats are back").journal().expect("a journal");
+    assert_eq!(verdict_on(&journal), Ok(Verdict::Lawful(8 * TIMES)));
 }
 
 /// The manager is sent an object one-way and keeps it; it is called and replies.
