@@ -66,12 +66,12 @@ def whole(anew):
         Part("library", ["tools/library"], r"^(?P<passed>\d+) programs .* (?P<failed>\d+) differences$", 40, of_archive, ("tests",)),
         Part("starve", ["tools/starve"], r"^[1-9]\d* requests refused, (?P<failed>\d+) differ$", 40, of_archive),
         Part("installed", ["tools/installed"], r"^installed: .*; (?P<failed>\d+) wrong$", 30, of_archive, ("tests",)),
-        Part("clients", ["clients/check", "raw", "--plain", "--untimed", "--seconds", "10", "--seed", "1"], OF_CLIENTS, 40, of_archive, ("viewer",)),
+        Part("clients", ["clients/check", "raw", "--plain", "--untimed", "--seconds", "10", "--seed", "1"], OF_CLIENTS, 40, of_archive, ("viewer", "tests")),
         Part("libgbinder", ["clients/check", "--plain", "--untimed", "--only", "libgbinder"], OF_CLIENTS, 20, of_archive, network=True),
         Part("bench", ["bench/run", "--check"], r"^(?P<passed>\d+) journals are as they must be", 20, of_archive, ("tests",)),
         Part("tool", ["tool/check"], r"^test result: \w+\. (?P<passed>\d+) passed; (?P<failed>\d+) failed;", 40, of_archive, ("viewer", "tests")),
         Part("try", ["./try", "--unproved"], r"^try, \*unproved\*: ended well", 20, kinds=("viewer",), network=True),
-        Part("packages", ["tools/packaged", "--roots", ROOTS], r"^packaged: .*; (?P<failed>\d+) wrong$", 30, of_archive, ("packages",), True),
+        Part("packages", ["tools/packaged", "--roots", ROOTS], r"^packaged: .*; (?P<failed>\d+) wrong$", 30, of_archive, ("packages", "viewer"), True),
     ]
 
 
@@ -213,9 +213,9 @@ def replaced(name, pattern, text):
 
 
 def told(about):
-    """What the last whole check came to, in words, and the table of its parts."""
+    """What the last whole check came to, in words, and the table of its parts. One that tools/fresh ran has where that was."""
     passed, failed, wall, used = (sum(it[name] for it in about["parts"]) for name in ("passed", "failed", "wall", "processor"))
-    took = f"{wall / 60:.0f} minutes on {about['processors']} processors, {used / 60:.0f} of a processor"
+    took = ", ".join([f"{wall / 60:.0f} minutes on {about['processors']} processors", f"{used / 60:.0f} of a processor", *filter(None, [about.get("where")])])
     rows = [f"| `{it['name']}` | {it['passed']} | {it['failed']} | {it['wall'] / 60:.1f} | {it['processor'] / 60:.1f} |" for it in about["parts"]]
     table = ["| Part | Passed | Failed | Minutes | Processor minutes |", "|---|---|---|---|---|", *rows,
              f"| all | {passed} | {failed} | {wall / 60:.1f} | {used / 60:.1f} |"]

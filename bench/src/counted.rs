@@ -62,6 +62,7 @@ fn functions(whose: Counts) -> Vec<(&'static str, *const c_void)> {
 fn all() -> Vec<Workload> {
     let mut all = Vec::from(workloads::all());
     all.insert(4, workloads::acquire_and_release());
+    all.insert(1, workloads::ping_among_all());
     all
 }
 

@@ -6,6 +6,9 @@ use crate::steps::{SEATS, Steps};
 pub const SMALL_WINDOW: u32 = 4096;
 pub const LARGE_WINDOW: u32 = 4_194_304;
 
+/// A driver's seats at most.
+const MOST_SEATS: u32 = 31;
+
 /// Sizes of what a read gets: with a transaction or reply alone, or after its sender's completion.
 pub const COMPLETE: usize = 8;
 pub const CALL: usize = 72;
@@ -47,6 +50,13 @@ pub fn two_processes(window: u32) -> Steps {
 
 pub fn ping() -> Workload {
     workload("one-way ping", "w1", two_processes(SMALL_WINDOW), |steps| steps.ping(64))
+}
+
+/// The same in a driver of as many seats as there can be, each with a process of its own.
+pub fn ping_among_all() -> Workload {
+    let mut setup = Steps::default();
+    (0..MOST_SEATS).for_each(|seat| setup.open(seat, SMALL_WINDOW));
+    workload("one-way ping, 31 seats", "w1-31", setup, |steps| steps.ping(64))
 }
 
 pub fn call_and_reply() -> Workload {
