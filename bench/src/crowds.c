@@ -201,12 +201,30 @@ static bool free_last(uint32_t number)
     return good;
 }
 
-/* ---- that all of it goes at once */
+/* ---- that all of it goes at once: who owns the crowd's objects, and who holds them, is counted */
+
+__attribute__((noinline)) bool owner_goes(void);
+bool owner_goes(void)
+{
+    return exits_process(&live, FIRST);
+}
+
+__attribute__((noinline)) bool holder_goes(void);
+bool holder_goes(void)
+{
+    return exits_process(&live, MANAGER);
+}
+
+static bool nothing_is_left(uint32_t number)
+{
+    (void)number;
+    return true;
+}
 
 static bool both_go(uint32_t number)
 {
     (void)number;
-    return exits_process(&live, FIRST) && exits_process(&live, MANAGER);
+    return owner_goes() && holder_goes();
 }
 
 static bool each_goes(uint32_t number)
@@ -230,12 +248,12 @@ enum { DEATH_SIZE = 12 };
 static bool deaths_are_told(uint32_t number)
 {
     uint32_t told = 0;
-    bool good = exits_process(&live, FIRST);
+    bool good = owner_goes();
     while (good && hullpippin_live_ready(&live, MANAGER)) {
         good = reads(&live, MANAGER);
         told += (uint32_t)(hullpippin_live_bytes(&live, HULLPIPPIN_STREAM, NULL, 0) / DEATH_SIZE);
     }
-    return good && is(told == number - looked_at(number), "not each death is told") && exits_process(&live, MANAGER);
+    return good && is(told == number - looked_at(number), "not each death is told") && holder_goes();
 }
 
 /* ---- rounds */
@@ -250,6 +268,48 @@ static bool calls_server(void)
 static bool queues_one_more(void)
 {
     return calls(&live, CLIENT, 0, HULLPIPPIN_TF_ONE_WAY) && reads(&live, CLIENT) && takes_and_frees(MANAGER) && calls_server();
+}
+
+/* The parcel of a round: so many objects, and where each lies. */
+enum { MOST_OBJECTS = 8192 };
+
+static uint32_t objects;
+static uint8_t data[MOST_OBJECTS * OBJECT_SIZE], offsets[MOST_OBJECTS * 8];
+
+/* One-way parcels are sent from now on. */
+static bool parcels(uint32_t number)
+{
+    objects = number;
+    return is(number <= MOST_OBJECTS, "a parcel has fewer objects");
+}
+
+/* Objects that nobody has seen, where the crowd is parcels. */
+static bool fills_parcel(void)
+{
+    static uint64_t latest = 0x1000000;
+    for (size_t i = 0; i < objects; i++) {
+        hullpippin_flat_object object = {.kind = HULLPIPPIN_TYPE_BINDER, .binder = latest += 16};
+        uint64_t offset = i * OBJECT_SIZE;
+        memcpy(offsets + 8 * i, &offset, sizeof offset);
+        if (hullpippin_put_object(&object, data + offset, OBJECT_SIZE))
+            return fails("the object has no place");
+    }
+    return true;
+}
+
+/* The manager reads the parcel, and frees it. */
+static bool sends_parcel(void)
+{
+    uint64_t buffer;
+    uint8_t bytes[CALL_SIZE];
+    hullpippin_answer answer;
+    size_t data_size = objects * OBJECT_SIZE, offsets_size = objects * 8;
+    hullpippin_command send = {.code = HULLPIPPIN_BC_TRANSACTION,
+                               .transaction = {.flags = HULLPIPPIN_TF_ONE_WAY, .data_size = data_size, .offsets_size = offsets_size}};
+    size_t size = hullpippin_spell_command(&send, bytes, sizeof bytes);
+    uint32_t status = hullpippin_live_command(&live, CLIENT, bytes, size, data, data_size, offsets, offsets_size, &answer);
+    return is_made(status, &answer, HULLPIPPIN_WROTE) && reads(&live, CLIENT) && takes(&live, MANAGER, &buffer)
+           && frees(&live, MANAGER, buffer);
 }
 
 static bool (*make)(void) = calls_server;
@@ -272,6 +332,7 @@ static const struct {
     {"callers", callers, calls_server, leave, both_go},      {"nested", nested, calls_server, unwind, both_go},
     {"queued", queued, queues_one_more, drain, client_goes}, {"kept", kept, calls_server, let_go, both_go},
     {"watched", watched, calls_server, take_back, deaths_are_told}, {"unfreed", unfreed, calls_server, free_last, client_goes},
+    {"parcel", parcels, sends_parcel, nothing_is_left, client_goes},
 };
 
 static bool (*end)(uint32_t number) = leave;
@@ -298,7 +359,7 @@ int main(int count, char **words)
 {
     bool good = count == 4 && stands(words[1], (uint32_t)strtoul(words[2], NULL, 10));
     for (unsigned long left = good ? strtoul(words[3], NULL, 10) : 0; good && left > 0; left--)
-        good = round_of();
+        good = fills_parcel() && round_of();
     good = good && end((uint32_t)strtoul(words[2], NULL, 10)) && go((uint32_t)strtoul(words[2], NULL, 10));
     if (!good)
         fprintf(stderr, "crowds: %s\n", complaint ? complaint : "crowds CROWD NUMBER ROUNDS");
