@@ -28,7 +28,7 @@ pub fn check_cut_file<H: AllocGlobal + Files + Input + Clock + Eprint, W: Write,
 ) -> u8 {
     let mut journal = match opened(rt, source.file) {
         Ok(journal) => journal,
-        Err(fault) => return tell(fault, err),
+        Err(unread) => return unread.tell(source.file, err),
     };
     if source.progress {
         let mut watch = Progress::new(rt, BYTES);

@@ -131,7 +131,7 @@ where
 {
     match opened(rt, run.file) {
         Ok(mut script) => run_script(rt, &mut script, run, out, err),
-        Err(fault) => tell(fault, err),
+        Err(unread) => unread.tell(run.file, err),
     }
 }
 
@@ -144,7 +144,7 @@ pub fn check_file<H: AllocGlobal + Files + Input + Clock + Eprint, W: Write, E: 
 ) -> u8 {
     let mut journal = match opened(rt, source.file) {
         Ok(journal) => journal,
-        Err(fault) => return tell(fault, err),
+        Err(unread) => return unread.tell(source.file, err),
     };
     if source.progress {
         let mut watch = Progress::new(rt, ENTRIES);

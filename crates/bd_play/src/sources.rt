@@ -4,10 +4,11 @@ ghost use Rattle.std.specs.Prelude.{IfOk};
 ghost use Rattle.bd_player.specs.Verdicts.{IsAsSaid};
 
 use crate::progress::Progress;
-use bd_player::{Judged, ProgramFault, judged_from, judged_watched};
+use bd_player::{Judged, ProgramFault, judged_from, judged_watched, tell};
 use either::Either;
 use std::fs::File;
-use std::io::Eprint;
+use std::io;
+use std::io::{Eprint, ErrorKind, Write};
 use std::rt::Files;
 use std::time::Clock;
 
@@ -20,17 +21,57 @@ pub const ENTRIES: &str = "entries";
 /// What is counted of one that was cut off.
 pub const BYTES: &str = "bytes";
 
+/// That a file can't be read.
+#[derive(Clone, Copy)]
+pub struct Unread {
+    fault: ProgramFault,
+    why: ErrorKind,
+}
+
+impl From<io::Error> for Unread {
+    fn from(error: io::Error) -> Unread {
+        let why = error.kind();
+        Unread {
+            fault: ProgramFault::from(error),
+            why,
+        }
+    }
+}
+
+impl From<Unread> for ProgramFault {
+    fn from(unread: Unread) -> ProgramFault {
+        unread.fault
+    }
+}
+
+impl Unread {
+    // Why, in words.
+    fn why(self) -> &'static str {
+        match self.why {
+            ErrorKind::NotFound => "there is no such file",
+            ErrorKind::PermissionDenied => "its permissions forbid to read it",
+            _ => "it can't be opened",
+        }
+    }
+
+    /// Tells the fault, and in a line of its own which file it is and why.
+    pub fn tell<E: Write>(self, file: &str, err: &mut E) -> u8 {
+        let status = tell(self.fault, err);
+        if self.fault == ProgramFault::File {
+            let _ = writeln!(err, "{file}: {}", self.why());
+        }
+        status
+    }
+}
+
 /// A reader of what is in the file of this name, or of standard input.
-pub fn opened<H: Files + Input>(
-    rt: &H,
-    file: &str,
-) -> Result<Either<H::Reader, H::File>, ProgramFault> {
+pub fn opened<H: Files + Input>(rt: &H, file: &str) -> Result<Either<H::Reader, H::File>, Unread> {
     if file == INPUT {
         return Ok(Either::Left(rt.reader()));
     }
     match File::open(rt, file) {
         Ok(file) => Ok(Either::Right(file)),
-        Err(error) => Err(ProgramFault::from(error)),
+        Err(error) => Err(Unread::from(error)),
     }
 }
 
@@ -52,7 +93,7 @@ pub fn judged_in<H: AllocGlobal + Files + Input + Clock + Eprint>(
 {
     let mut journal = match opened(rt, source.file) {
         Ok(journal) => journal,
-        Err(fault) => return Err(fault),
+        Err(unread) => return Err(ProgramFault::from(unread)),
     };
     if source.progress {
         judged_watched(rt.alloc(), &mut journal, &mut Progress::new(rt, ENTRIES))
