@@ -16,7 +16,7 @@ use Rattle.bd_ways.specs.Local.{is_among}
 use Rattle.bd_space.specs.References.{owned_in}
 use Rattle.bd_space.specs.ProcessExits.{is_armed}
 use Rattle.bd_space.proofs.Identities.{same_eq, same_turned}
-use Rattle.bd_nodes.specs.New.{HasAll}
+use Rattle.bd_records.specs.New.{HasAll}
 use Rattle.bd_deaths.specs.Keys.{object_group}
 use Rattle.bd_deaths.specs.Listed.{IsListed}
 use Rattle.bd_deaths.specs.Due.{is_due, is_due_at, is_queued_in, queued_at, has_place}

@@ -6,4 +6,5 @@ pub mod Due
 pub mod Only
 pub mod Keys
 pub mod SharedAt
+pub mod Objects
 pub mod OneIsDue

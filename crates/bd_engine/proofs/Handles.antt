@@ -5,7 +5,7 @@ use Rattle.bd_space.specs.Space.{Space}
 use Rattle.bd_space.specs.declared.space.Process.{Process}
 use Rattle.bd_space.specs.Seats.{process_with_pid}
 use Rattle.bd_space.specs.Names.{named, named_in}
-use Rattle.bd_handles.specs.Numbers.{IsNextNumber}
+use Rattle.bd_records.specs.Numbers.{IsNextNumber}
 use Rattle.bd_engine.specs.Looks.{IsNextHandle, named_by}
 
 by_process : (s : Space) (pid n : ℕ) (q : Process) → Some q ≡ process_with_pid s.processes pid → named_by s pid n ≡ named_in s.names q.made n

@@ -19,7 +19,7 @@ use Rattle.bd_laws.proofs.Lists.{find_in, in_filter, in_map}
 use Rattle.bd_laws.proofs.Machine.Steps.{always_steps}
 use Rattle.bd_earlier.specs.Places.{IsOfEarlierSteps}
 use Rattle.bd_earlier.proofs.Places.{places_earlier}
-use Rattle.bd_holds.specs.Carried.{is_carried_by}
+use Rattle.bd_records.specs.Carried.{is_carried_by}
 use Rattle.bd_todo.specs.TodoList.{reply_of, first_reply_in}
 use Rattle.bd_engine.specs.Looks as looks
 

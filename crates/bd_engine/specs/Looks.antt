@@ -8,7 +8,7 @@ use Rattle.bd_space.specs.Windows.{buffers_of}
 use Rattle.bd_space.specs.Returns.{buffer_in}
 use Rattle.bd_space.specs.Frames.{innermost, serves}
 use Rattle.bd_space.specs.Todo.{work_on}
-use Rattle.bd_holds.specs.Carried.{carried_in}
+use Rattle.bd_records.specs.Carried.{carried_in}
 use Rattle.bd_engine.specs.declared.narrow.BufferLook.{BufferLook}
 use Rattle.bd_todo.specs.TodoList.{first_reply_in}
 

@@ -1,7 +1,7 @@
 -- For every law: what an accepted transaction, reply or asking has tested.
 use Rattle.bd_laws.proofs.words.Logic.{arith, ◌≡◌, ◌==◌, ℕ, Bool, false, Option, Some, None, Ok, ◌⊎◌, refl, sym, subst, option_map, option_and_then_some, eqb-true}
 use Rattle.bd_laws.proofs.words.Types.{TransactionData, DeadOwner, Identity, Parcel, Process, Thread, Actor, Callee, Frame, Object}
-use Rattle.bd_laws.proofs.words.Space.{same, ok_or, Space, actor, process_in, thread_in, object_in, Delivery, sending_of, transaction_check, callee_of, target_of, owner_of, handle_of, is_one_way, caller_cause, reply_check, caller_of, ask_check}
+use Rattle.bd_laws.proofs.words.Space.{same, ok_or, Space, actor, process_in, thread_in, object_in, owned_in, Delivery, sending_of, transaction_check, callee_of, target_of, owner_of, handle_of, is_one_way, caller_cause, reply_check, caller_of, ask_check}
 use Rattle.bd_laws.specs.Lists.{In}
 use Rattle.bd_laws.proofs.Lists.{find_in}
 use Rattle.bd_laws.proofs.Tests.{same_eq, and_then_ok, found_ok}
@@ -67,6 +67,11 @@ reply_checked s a d parcel f v h = search arith
 pub asked_checked : (s : Space) (p n : ℕ) (strong : Bool) (o : Identity) → ask_check s p n strong ≡ Ok o → ((n ≡ 0) × (s.manager ≡ Some o)) ⊎ HasName s.names p o
 unfolding ask_check
 asked_checked s p n strong o h = search (arith, found_ok, eqb-true, named_has)
+
+-- and it isn't the process's own
+pub asked_others : (s : Space) (p n : ℕ) (strong : Bool) (o : Identity) → ask_check s p n strong ≡ Ok o → owned_in s.objects p o ≡ false
+unfolding ask_check
+asked_others s p n strong o h = search arith
 
 -- ---- actors
 

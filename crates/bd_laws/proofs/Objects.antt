@@ -1,17 +1,19 @@
 -- SpacesAreTidy, and ObjectsAreKept, which is proved from it: objects stay in the space as long as anything refers to them,
 -- and no two have one identity.
-use Rattle.bd_laws.proofs.words.Logic.{◌≡◌, ℕ, suc, Bool, true, false, cond, List, [], ◌∷◌, Option, Some, None, inl, inr, refl, ap, sym, subst, ◌∙◌, arith, list_all, flat_map, is_some}
-use Rattle.bd_laws.proofs.words.Types.{Identity, Process, Object, Reference, Manager, Name, Work, OfThread, Step, Entry}
-use Rattle.bd_laws.proofs.words.Space.{changed, same, Space, reference_of, held_in, object_in, stays_in, objects_go, names_go, read_by, handshakes, handshakes_for, shakes, told_of, is_told_by, returns_of, returns_of_object, with_thread, with_process, with_manager, opening, closed, ripen, follow, change, counted, next, with_spam_detection}
+use Rattle.bd_laws.proofs.words.Logic.{◌≡◌, ℕ, suc, Bool, true, false, cond, List, [], ◌∷◌, ◌++◌, Option, Some, None, Ok, inl, inr, refl, ap, sym, subst, ◌∙◌, arith, list_all, flat_map, is_some}
+use Rattle.bd_laws.proofs.words.Types.{Identity, Process, Object, Reference, Manager, Name, Item, Work, OfThread, Step, Entry}
+use Rattle.bd_laws.proofs.words.Space.{changed, same, Space, reference_of, held_in, object_in, stays_in, objects_go, names_go, read_by, handshakes, handshakes_for, shakes, told_of, is_told_by, returns_of, returns_of_object, with_thread, with_process, with_manager, opening, closed, ripen, follow, change, counted, next, with_spam_detection, ask_check}
 use Rattle.bd_space.specs.declared.space.WorkKind.TheVariants as work
 use Rattle.bd_laws.proofs.words.Laws.{In, Here, Earlier, Kept, KeptBefore}
 use Rattle.bd_laws.proofs.Lists.{in_left, in_last, in_filter, filter_in, in_changed, changed_in, any_found, any_in, all_in, find_in, find_some, pairs_filter, pairs_changed}
 use Rattle.bd_laws.proofs.Tests.{to_false, same_eq, eq_same, notice_named}
+use Rattle.bd_laws.proofs.Sendings.{Sends}
+use Rattle.bd_laws.proofs.Checks.{asked_checked}
 use Rattle.bd_laws.proofs.Machine.EveryStep.{Keeps, every_step}
 use Rattle.bd_laws.proofs.Machine.Untouched.{owe_untouched, closed_untouched, ripen_untouched, notify_untouched, work_goes_untouched, deaths_go_untouched, with_looping_untouched, on_deaths_untouched, tell_deaths_untouched}
 use Rattle.bd_laws.proofs.Machine.Deaths.{on_mapped, on_commands}
 use Rattle.bd_laws.proofs.FollowingIsLocal.Handshakes.{for_object, shaken_by}
-use Rattle.bd_laws.proofs.KeptBefore.ObjectsKept.{IsKept, IsKeptWhole, kept_untouched, whole_untouched, drop_asked_kept, acknowledge_kept, without_buffer_kept, thread_goes_kept, threads_go_kept, without_process_kept, grown, referred, ask_kept}
+use Rattle.bd_laws.proofs.KeptBefore.ObjectsKept.{IsKept, IsKeptWhole, kept_untouched, whole_untouched, drop_asked_kept, acknowledge_kept, without_buffer_kept, thread_goes_kept, threads_go_kept, without_process_kept, grown, referred, ask_kept, sent_here, asked_here}
 pub use Rattle.bd_laws.proofs.KeptBefore.ObjectsKept.{later, replied_kept, transacted_kept}
 
 -- ---- managing
@@ -139,6 +141,17 @@ pub names_here : (z : Space) → KeptBefore z → list_all (λ m. is_some (objec
 names_here z h =
     all_in (λ (m : Name). is_some (object_in z.objects m.object)) z.names
     (λ m l. let r = h.named m l in let x = h.kept.refs r.0 r.1 in here_found z.objects m.object (x.0, x.1, x.2 ∙ r.2))
+
+-- what a process may ask for is there
+pub asked_found : (s : Space) (p n : ℕ) (strong : Bool) (o : Identity) → KeptBefore s → ask_check s p n strong ≡ Ok o → is_some (object_in s.objects o) ≡ true
+asked_found s p n strong o h check = here_found s.objects o (asked_here s p o n h (asked_checked s p n strong o check))
+
+-- what a parcel carries is there, once what the sending makes is there too
+pub carried_found : (s : Space) (p : ℕ) (made : List Object) (items : List Item) → KeptBefore s → Sends s p made items
+    → list_all (λ x. is_some (object_in (s.objects ++ made) x.object)) items ≡ true
+carried_found s p made items h sends =
+    all_in (λ (x : Item). is_some (object_in (s.objects ++ made) x.object)) items
+    (λ x l. here_found (s.objects ++ made) x.object (sent_here s p made x.object h (sends.sent x l)))
 
 -- what isn't in the space isn't referred to
 pub gone_unheld : (z : Space) → KeptBefore z → (o : Identity) → is_some (object_in z.objects o) ≡ false → held_in z.references o ≡ false

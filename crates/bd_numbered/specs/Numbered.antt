@@ -1,5 +1,5 @@
 -- What each process has under each number.
-use Rattle.std.specs.Prelude.{ℕ, ◌≡◌, ◌==◌, ◌≤◌, ◌<◌, true, Option, None, Some, is_some}
+use Rattle.std.specs.Prelude.{ℕ, ◌≡◌, ◌==◌, ◌≤◌, ◌<◌, true, Option, None, is_some}
 use Rattle.std.specs.HashMap.{get_by}
 use Rattle.bd_numbered.specs.declared.numbered.Numbered.{Numbered}
 use Rattle.bd_numbered.specs.Columns.{values_in, rooms_in, on_slot}

@@ -1,9 +1,10 @@
 //! The rows of all processes.
 
-ghost use Rattle.std.specs.Prelude.{ℕ, ◌≡◌, ◌==◌, ◌≤◌, ◌<◌, ◌+◌, ◌&&◌, true, false, Some, None, is_some, MatchOption, IfSome, IfNone, ◌^◌, if◌then◌else◌, OnOk, OnErr};
+ghost use Rattle.std.specs.Prelude.{option_copied, ℕ, ◌≡◌, ◌==◌, ◌≤◌, ◌<◌, ◌+◌, ◌&&◌, true, false, Some, None, is_some, MatchOption, IfSome, IfNone, ◌^◌, if◌then◌else◌, OnOk, OnErr};
 ghost use Rattle.std.specs.HashMap.{get_by};
 ghost use Rattle.bd_numbered.specs.Columns.{made_in};
 
+use crate::guesses::Guesses;
 use crate::row::Row;
 use crate::rows::{
     free_in, insert_row, insert_slot, made_at, next_in, put_in, remove_in, remove_row, remove_slot,
@@ -17,8 +18,9 @@ use std::collections::HashMap;
 #[derive(Drop)]
 pub struct Numbered<T> {
     pub(crate) rows: Slab<Row<T>>,
-    // The slot of each process's row, asked where the caller's guess is wrong.
+    // The slot of each process's row, asked where all guesses are wrong.
     pub(crate) slots: HashMap<u64, usize>,
+    pub(crate) guesses: Guesses,
     pub(crate) alloc: Global,
     ghost found: { (p k : ℕ) → made_in rows k ≡ Some p → get_by (λ q. p == q) slots ≡ Some k },
     ghost leads: { (p k : ℕ) → get_by (λ q. p == q) slots ≡ Some k → made_in rows k ≡ Some p },
@@ -34,6 +36,7 @@ impl<T: Copy> Numbered<T> {
         Numbered {
             rows: Slab::new(alloc),
             slots: HashMap::new(alloc),
+            guesses: Guesses::new(),
             alloc,
         }
     }
@@ -46,6 +49,10 @@ impl<T: Copy> Numbered<T> {
         if made_at(&self.rows, near) == Some(p) {
             return Some(near);
         }
+        let guess = self.guesses.of(p) as usize;
+        if made_at(&self.rows, guess) == Some(p) {
+            return Some(guess);
+        }
         self.slots.get(&p).copied()
     }
 
@@ -57,6 +64,18 @@ impl<T: Copy> Numbered<T> {
         let k = self.slot_near(p, near)?;
         match self.rows.get(k) {
             Some(row) => row.get(n),
+            None => None,
+        }
+    }
+
+    /// The same, where it stands.
+    #[inline(always)]
+    pub fn look(&self, p: u64, n: u32, near: usize) -> Option<&T>
+        ensures { option_copied result ≡ value_at self.now p n }
+    {
+        let k = self.slot_near(p, near)?;
+        match self.rows.get(k) {
+            Some(row) => row.look(n),
             None => None,
         }
     }
@@ -98,6 +117,7 @@ impl<T: Copy> Numbered<T> {
         reserve_slots(&mut self.slots)?;
         let k = insert_row(&mut self.rows, row);
         insert_slot(&mut self.slots, p, k);
+        self.guesses.note(p, k);
         Ok(())
     }
 

@@ -1,6 +1,6 @@
 //! The values of one process.
 
-ghost use Rattle.std.specs.Prelude.{ℕ, ◌≡◌, ◌==◌, ◌≤◌, ◌<◌, ◌+◌, true, false, Some, None, is_some, MatchOption, IfSome, IfNone, ◌^◌, if◌then◌else◌, OnOk, OnErr};
+ghost use Rattle.std.specs.Prelude.{option_copied, ℕ, ◌≡◌, ◌==◌, ◌≤◌, ◌<◌, ◌+◌, true, false, Some, None, is_some, MatchOption, IfSome, IfNone, ◌^◌, if◌then◌else◌, OnOk, OnErr};
 
 use bd_places::Places;
 use std::alloc::{AllocError, Global};
@@ -47,6 +47,17 @@ impl<T: Copy> Row<T> {
             self.zero
         } else {
             self.places.get(n as usize - 1)
+        }
+    }
+
+    #[inline(always)]
+    pub(crate) fn look(&self, n: u32) -> Option<&T>
+        ensures { option_copied result ≡ value_of self.now n }
+    {
+        if n == 0 {
+            self.zero.as_ref()
+        } else {
+            self.places.look(n as usize - 1)
         }
     }
 

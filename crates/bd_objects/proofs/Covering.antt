@@ -10,7 +10,7 @@ use Rattle.bd_space.specs.Words.{same}
 use Rattle.bd_ways.specs.Local.{is_among}
 use Rattle.bd_space.specs.References.{owned_in, is_asked_by, is_in_window, is_of_owner}
 use Rattle.bd_space.specs.ProcessExits.{is_dropped_with}
-use Rattle.bd_nodes.specs.New.{HasAll}
+use Rattle.bd_records.specs.New.{HasAll}
 use Rattle.bd_space.proofs.Identities.{same_eq, same_self}
 
 among_append : (xs ys : List Identity) (o : Identity) → is_among (xs ++ ys) o ≡ (is_among xs o || is_among ys o)

@@ -7,8 +7,7 @@ use Rattle.bd_space.specs.declared.space.DeathNotification.{DeathNotification}
 use Rattle.bd_space.specs.Names.{has_number_past_limit}
 use Rattle.bd_objects.specs.declared.table.ObjectTable.{ObjectTable}
 use Rattle.bd_objects.specs.Stands.{Stands}
-use Rattle.bd_handles.proofs.Limits as limits
 
 pub numbers_fit : (t : ObjectTable) (objects : List Object) (references : List Reference) (names : List Name)
     (deaths : List DeathNotification) → Stands t objects references names deaths → has_number_past_limit names ≡ false
-numbers_fit t objects references names deaths h = limits.numbers_fit t.names names names h.names_are
+numbers_fit t objects references names deaths h = h.names_are.stands.fits

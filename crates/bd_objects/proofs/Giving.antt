@@ -3,7 +3,7 @@
 use Rattle.std.proofs.Common.{◌≡◌, ℕ, zero, suc, ◌+◌, ◌<◌, Bool, true, false, not, ◌&&◌, ◌||◌, if◌then◌else◌, cond, List, [], ◌∷◌, ◌++◌, Option, take, drop, length, get_or, fold, filter, map, refl, ap, sym, ◌∙◌, subst, append-nil, arith}
 use Rattle.std.specs.Prelude.{◌==◌, nat_lt, is_some, Some, None, find, option_map}
 use Rattle.std.specs.Option.{option_eq}
-use Rattle.std.proofs.lemmas.Bool.{lt-ltb, or_right}
+use Rattle.std.proofs.lemmas.Bool.{lt-ltb, or_right, and_parts, and_from, eq-eqb}
 use Rattle.std.proofs.lemmas.List.Folds.{fold-map, list_any-append}
 use Rattle.std.proofs.lemmas.List.Sums.{fold_more}
 use Rattle.std.proofs.lemmas.List.Elements.{filter-append}
@@ -12,14 +12,15 @@ use Rattle.bd_space.specs.declared.space.Item.{Item}
 use Rattle.bd_space.specs.declared.space.Name.{Name}
 use Rattle.bd_space.specs.declared.space.Object.{Object}
 use Rattle.bd_space.specs.declared.space.Reference.{Reference}
-use Rattle.bd_space.specs.Words.{same}
-use Rattle.bd_space.specs.References.{owned_in}
+use Rattle.bd_space.specs.Words.{same, list_all}
+use Rattle.bd_space.specs.References.{object_in, owned_in}
 use Rattle.bd_space.specs.Parcels.{object_of_item}
 use Rattle.bd_space.specs.Names.{is_named_in, is_managers, named_in, number_in, with_name, has_number_past_limit}
 use Rattle.bd_space.proofs.Identities.{same_eq, same_self}
-use Rattle.bd_handles.specs.Numbers.{IsFull, new_number}
+use Rattle.bd_records.specs.Numbers.{IsFull, new_number}
 use Rattle.bd_objects.specs.Naming.{with_name_unless, with_other_name, is_referred, AreReferred}
 use Rattle.bd_objects.specs.Numbers.{IsPastLimit}
+use Rattle.bd_objects.specs.Delivery.{is_ready, AreReady}
 
 by_cases : {A : Type 0} (own some : Bool) (xs ys : A) → (if own then xs else (if some then xs else ys)) ≡ (if (not own && true) && not some then ys else xs)
 by_cases true some xs ys = refl
@@ -81,7 +82,7 @@ module _ (manager : Option Identity) (objects : List Object) (p : ℕ) where
     grown_twice_case ns n false true = ([], sym (append-nil ns))
     grown_twice_case ns n false false = (n ∷ [], refl)
 
-    grown : (ns : List Name) (x : Item) → (added : List Name) × (give ns x ≡ ns ++ added)
+    pub grown : (ns : List Name) (x : Item) → (added : List Name) × (give ns x ≡ ns ++ added)
     grown ns x = grown_twice_case ns _ _ _
 
     past_append : (ns added : List Name) → has_number_past_limit (filter q ns) ≡ true → has_number_past_limit (filter q (ns ++ added)) ≡ true
@@ -136,8 +137,98 @@ module _ (manager : Option Identity) (objects : List Object) (p : ℕ) where
       subst (λ ms. has_number_past_limit (filter q ms) ≡ true) (give_all xs ns)
       (past_at q xs ns i d h (past_one refs _ _ e (referred_at refs xs i d h r) f))
 
+or_none : (a b : Bool) → (a || b) ≡ false → a ≡ false
+or_none true b h = absurd (cc)
+or_none false b h = refl
+
+-- what isn't its own with others isn't without them
+pub owned_before : (objects made : List Object) (p : ℕ) (o : Identity) → owned_in (objects ++ made) p o ≡ false → owned_in objects p o ≡ false
+owned_before objects made p o e =
+    let owns = λ (x : Object). same x.id o && (x.owner == p) in
+    or_none (owned_in objects p o) (owned_in made p o) (sym (list_any-append owns objects made) ∙ e)
+
 -- those that are made count alike
 pub owned_alike : (objects made kept : List Object) (p : ℕ) (o : Identity) → owned_in kept p o ≡ owned_in made p o → owned_in (objects ++ kept) p o ≡ owned_in (objects ++ made) p o
 owned_alike objects made kept p o e =
     let owns = λ (x : Object). same x.id o && (x.owner == p) in
     list_any-append owns objects kept ∙ ap (λ b. owned_in objects p o || b) e ∙ sym (list_any-append owns objects made)
+
+-- ---- what is ready once the names are given
+
+module _ (p : ℕ) (o : Identity) where
+  abbrev is_it : Name → Bool
+  is_it m = (m.process == p) && same m.object o
+
+  found_with : (ns more : List Name) → is_some (find is_it ns) ≡ true → is_some (find is_it (ns ++ more)) ≡ true
+  found_with [] more h = absurd (cc)
+  found_with (m ∷ ns) more h = at (is_it m) h (found_with ns more)
+    where
+      at : (b : Bool) → is_some (cond b (Some m) (find is_it ns)) ≡ true → (is_some (find is_it ns) ≡ true → is_some (find is_it (ns ++ more)) ≡ true)
+          → is_some (cond b (Some m) (find is_it (ns ++ more))) ≡ true
+      at true h rest = refl
+      at false h rest = rest h
+
+  found_last : (ns : List Name) (m : Name) → is_it m ≡ true → is_some (find is_it (ns ++ m ∷ [])) ≡ true
+  found_last [] m h = rw h refl
+  found_last (n ∷ ns) m h = at (is_it n) (found_last ns m h)
+    where
+      at : (b : Bool) → is_some (find is_it (ns ++ m ∷ [])) ≡ true → is_some (cond b (Some n) (find is_it (ns ++ m ∷ []))) ≡ true
+      at true rest = refl
+      at false rest = rest
+
+  shown_number : (x : Option Name) → is_some (option_map (λ (m : Name). m.number) x) ≡ is_some x
+  shown_number None = refl
+  shown_number (Some m) = refl
+
+  pub numbered_with : (ns more : List Name) → is_some (number_in ns p o) ≡ true → is_some (number_in (ns ++ more) p o) ≡ true
+  numbered_with ns more h = shown_number _ ∙ found_with ns more (sym (shown_number _) ∙ h)
+
+  pub numbered_last : (ns : List Name) (n : ℕ) → is_some (number_in (ns ++ record { process = p; number = n; object = o } ∷ []) p o) ≡ true
+  numbered_last ns n = shown_number _ ∙ found_last ns _ (rw (same_self o, eq-eqb p p refl) refl)
+
+module _ (manager : Option Identity) (objects : List Object) (p : ℕ) where
+  abbrev gives : List Name → Item → List Name
+  gives = give manager objects p
+
+  numbered_other : (x : Item) (ns : List Name) (o : Identity) → is_some (number_in ns p o) ≡ true → is_some (number_in (gives ns x) p o) ≡ true
+  numbered_other x ns o h = let g = grown manager objects p (λ m. true) ns x in subst (λ ms. is_some (number_in ms p o) ≡ true) (sym g.1) (numbered_with p o ns g.0 h)
+
+  numbered_fold : (xs : List Item) (ns : List Name) (o : Identity) → is_some (number_in ns p o) ≡ true → is_some (number_in (fold gives ns xs) p o) ≡ true
+  numbered_fold [] ns o h = h
+  numbered_fold (x ∷ xs) ns o h = numbered_fold xs (gives ns x) o (numbered_other x ns o h)
+
+  given_case : (own some : Bool) (ns ms : List Name) (o : Identity) → some ≡ is_some (number_in ns p o) → is_some (number_in ms p o) ≡ true
+      → (own || is_some (number_in (if own then ns else (if some then ns else ms)) p o)) ≡ true
+  given_case true some ns ms o e h = refl
+  given_case false true ns ms o e h = sym e
+  given_case false false ns ms o e h = h
+
+  given_one : (ns : List Name) (o : Identity) → (owned_in objects p o || is_some (number_in (with_other_name manager objects p ns o) p o)) ≡ true
+  given_one ns o = given_case (owned_in objects p o) (is_some (number_in ns p o)) ns _ o refl (numbered_last p o ns _)
+
+  -- an object that is another's
+  pub given_other : (ns : List Name) (o : Identity) → owned_in objects p o ≡ false → is_some (number_in (with_other_name manager objects p ns o) p o) ≡ true
+  given_other ns o e = by (owned_in objects p o) e (given_one ns o)
+    where
+      by : (own : Bool) → own ≡ false → (own || is_some (number_in (with_other_name manager objects p ns o) p o)) ≡ true → is_some (number_in (with_other_name manager objects p ns o) p o) ≡ true
+      by true e h = absurd (cc)
+      by false e h = h
+
+  or_more : (a b c : Bool) → (b ≡ true → c ≡ true) → (a || b) ≡ true → (a || c) ≡ true
+  or_more true b c f h = refl
+  or_more false b c f h = f h
+
+  named_all : (xs ys : List Item) (ns : List Name) → list_all (λ (x : Item). is_some (object_in objects x.object)) xs ≡ true
+      → ((ms : List Name) (x : Item) (o : Identity) → is_some (number_in ms p o) ≡ true → is_some (number_in (fold gives ms ys) p o) ≡ true)
+      → list_all (λ (x : Item). is_ready objects (fold gives (fold gives ns xs) ys) p x.object) xs ≡ true
+  named_all [] ys ns h k = refl
+  named_all (x ∷ xs) ys ns h k =
+      let here = and_parts (is_some (object_in objects x.object)) (list_all (λ (y : Item). is_some (object_in objects y.object)) xs) h in
+      and_from _ _
+      (and_from _ _ here.0 (or_more (owned_in objects p x.object) _ _ (λ e. k _ x x.object (numbered_fold xs (gives ns x) x.object e)) (given_one ns x.object)))
+      (named_all xs ys (gives ns x) here.1 k)
+
+  -- each item's object that is there
+  pub given_ready : (xs : List Item) (ns : List Name) → list_all (λ (x : Item). is_some (object_in objects x.object)) xs ≡ true
+      → AreReady objects (fold (with_other_name manager objects p) ns (map object_of_item xs)) p xs
+  given_ready xs ns h = subst (λ ms. AreReady objects ms p xs) (give_all manager objects p xs ns) (named_all xs [] ns h (λ ms x o e. e))

@@ -4,8 +4,8 @@ use Rattle.std.proofs.lemmas.List.{take_more}
 use Rattle.bd_space.specs.declared.space.Work.{Work}
 use Rattle.bd_space.specs.Space.{Space}
 use Rattle.bd_space.specs.ReadItems.{handshakes, handshakes_of}
-use Rattle.bd_holds.specs.declared.table.ReferenceTable.{ReferenceTable}
-use Rattle.bd_holds.specs.Stands.{ReferencesAre}
+use Rattle.bd_records.specs.declared.records.Records.{Records}
+use Rattle.bd_records.specs.Records.{RecordsAre}
 
 module _ (s : Space) where
   one_more : (ws : List Work) (w : Work) (k : ℕ) → handshakes s k (ws ++ w ∷ []) ≡ handshakes s k ws ++ handshakes_of s (k + length (handshakes s k ws)) w.kind
@@ -23,13 +23,13 @@ module _ (s : Space) where
       let start : 0 + length before ≡ length before = omega arith in
       ap (λ xs. handshakes s 0 xs) (take_more ws i d h) ∙ one_more (take i ws) (get_or ws i d) 0 ∙ ap (λ n. before ++ handshakes_of s n (get_or ws i d).kind) start
 
-  -- those of one item more, in a table
-  pub handshakes_next : (ws : List Work) (i : ℕ) (d : Work) (index result : ℕ) (t : ReferenceTable) → i < length ws → index ≡ length (handshakes s 0 (take i ws))
-      → ReferencesAre t ((s.references ++ handshakes s 0 (take i ws)) ++ handshakes_of s index (get_or ws i d).kind) × (result ≡ index + length (handshakes_of s index (get_or ws i d).kind))
-      → ReferencesAre t (s.references ++ handshakes s 0 (take (i + 1) ws)) × (result ≡ length (handshakes s 0 (take (i + 1) ws)))
+  -- those of one item more, in records
+  pub handshakes_next : (ws : List Work) (i : ℕ) (d : Work) (index result : ℕ) (t : Records) → i < length ws → index ≡ length (handshakes s 0 (take i ws))
+      → RecordsAre t s.objects ((s.references ++ handshakes s 0 (take i ws)) ++ handshakes_of s index (get_or ws i d).kind) × (result ≡ index + length (handshakes_of s index (get_or ws i d).kind))
+      → RecordsAre t s.objects (s.references ++ handshakes s 0 (take (i + 1) ws)) × (result ≡ length (handshakes s 0 (take (i + 1) ws)))
   handshakes_next ws i d index result t h e g =
       let before = handshakes s 0 (take i ws) in
       let more = handshakes_of s index (get_or ws i d).kind in
       let all : handshakes s 0 (take (i + 1) ws) ≡ before ++ more = handshakes_more ws i d h ∙ ap (λ n. before ++ handshakes_of s n (get_or ws i d).kind) (sym e) in
       let long : index + length more ≡ length (before ++ more) = ap (λ n. n + length more) e ∙ sym (length-append before more) in
-      (subst (λ rs. ReferencesAre t rs) (append_assoc s.references before more ∙ ap (λ rs. s.references ++ rs) (sym all)) g.0, g.1 ∙ long ∙ ap length (sym all))
+      (subst (λ rs. RecordsAre t s.objects rs) (append_assoc s.references before more ∙ ap (λ rs. s.references ++ rs) (sym all)) g.0, g.1 ∙ long ∙ ap length (sym all))

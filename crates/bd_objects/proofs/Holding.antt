@@ -17,6 +17,7 @@ use Rattle.bd_space.specs.Returns.{returns_of, returns_of_object}
 use Rattle.bd_space.specs.ReadItems.{shakes, handshakes_for, handshakes_of, handshakes}
 use Rattle.bd_space.proofs.Identities.{same_eq}
 use Rattle.bd_objects.specs.Reading.{owed, HoldsAlike}
+use Rattle.bd_objects.proofs.Apart.{found_same}
 
 -- ---- what is owed
 
@@ -87,14 +88,6 @@ module _ (refs : List Reference) where
   backed_owed place k o true false h g = (record { held = h refl; strong = λ e. absurd (cc) }, tt)
   backed_owed place k o false true h g = (record { held = strong_held refs o (g refl); strong = g }, tt)
   backed_owed place k o false false h g = tt
-
-  found_same : (objects : List Object) (o : Identity) (x : Object) → object_in objects o ≡ Some x → same x.id o ≡ true
-  found_same [] o x h = absurd (cc)
-  found_same (y ∷ ys) o x h = by (same y.id o) refl h (λ k. found_same ys o x k)
-    where
-      by : (b : Bool) → same y.id o ≡ b → (if b then Some y else object_in ys o) ≡ Some x → (object_in ys o ≡ Some x → same x.id o ≡ true) → same x.id o ≡ true
-      by true e h rest = let is : y ≡ x = cc in subst (λ z. same z.id o ≡ true) is e
-      by false e h rest = rest h
 
   backed_object : (place k : ℕ) (objects : List Object) (o : Identity) (ox : Option Object) → object_in objects o ≡ ox
       → AreBacked (handshakes_for place k o (flat_map shakes (returns_of_object refs ox)))

@@ -2,6 +2,9 @@ pub mod Results
 pub mod Owners
 pub mod Fitting
 pub mod Giving
+pub mod Homed
+pub mod Ending
+pub mod Apart
 pub mod Referring
 pub mod BufferReferences
 pub mod Changes
@@ -13,3 +16,4 @@ pub mod Lost
 pub mod Covering
 pub mod Later
 pub mod Owned
+mod Spent

@@ -3,7 +3,7 @@ use Rattle.std.specs.Prelude.{ℕ, ◌≡◌, true, Bool, List, [], ◌∷◌, O
 use Rattle.bd_ways.specs.Words.{list_any, Identity, Object, Reference, Name, same}
 use Rattle.bd_space.specs.References.{owned_in, gives_name_to}
 use Rattle.bd_space.specs.Names.{is_managers}
-use Rattle.bd_handles.specs.Numbers.{with_number}
+use Rattle.bd_records.specs.Numbers.{with_number}
 
 -- p has a name for o afterwards, unless o is its own
 abbrev pub with_name_unless : Bool → Option Identity → ℕ → List Name → Identity → List Name

@@ -1,9 +1,7 @@
 -- How many members a table may still take without memory, and what a change takes of that.
 use Rattle.std.specs.Prelude.{ℕ, ◌+◌, ◌≤◌, ◌≡◌, ◌==◌, false, List, length}
 use Rattle.bd_ways.specs.Words.{Item, Object}
-use Rattle.bd_nodes.specs.Room.{node_room, node_count}
-use Rattle.bd_holds.specs.Room.{reference_room as reference_room_of}
-use Rattle.bd_handles.specs.Stands.{name_room as name_room_of}
+use Rattle.bd_records.specs.{Records.{new_room, reference_room as reference_room_of}, Since.{given_room}}
 use Rattle.bd_deaths.specs.Room.{death_room as death_room_of, death_count as death_count_of}
 use Rattle.bd_objects.specs.declared.table.ObjectTable.{ObjectTable}
 use Rattle.bd_objects.specs.declared.room.Room.{Room}
@@ -14,16 +12,14 @@ pub record Rooms : Type 0 where
   pub references_left : ℕ
   pub names_left : ℕ → ℕ
   pub deaths_left : ℕ
-  pub object_count : ℕ
   pub death_count : ℕ
 
 unfoldable pub rooms : ObjectTable → Rooms
 rooms t = record {
-  objects_left = node_room t.nodes;
-  references_left = reference_room_of t.references;
-  names_left = name_room_of t.names;
+  objects_left = new_room t.records;
+  references_left = reference_room_of t.records;
+  names_left = given_room t.records;
   deaths_left = death_room_of t.deaths;
-  object_count = node_count t.nodes;
   death_count = death_count_of t.deaths;
 }
 
@@ -38,9 +34,6 @@ name_room t p = (rooms t).names_left p
 
 abbrev pub death_room : ObjectTable → ℕ
 death_room t = (rooms t).deaths_left
-
-abbrev pub object_count : ObjectTable → ℕ
-object_count t = (rooms t).object_count
 
 abbrev pub death_count : ObjectTable → ℕ
 death_count t = (rooms t).death_count
@@ -58,7 +51,6 @@ pub record Uses (old new : ObjectTable) (room : Room) : Type 0 where
   pub references_fit : reference_room old ≤ reference_room new + room.references
   pub names_fit : (p : ℕ) → name_room old p ≤ name_room new p + room.names
   pub deaths_fit : death_room old ≤ death_room new + room.deaths
-  pub objects_count : object_count new ≤ object_count old + room.objects
   pub deaths_count : death_count new ≤ death_count old + room.deaths
 
 abbrev pub nothing : Room
@@ -73,7 +65,6 @@ pub record UsesNothingBut (ended : ℕ) (old new : ObjectTable) : Type 0 where
   pub references_fit : reference_room old ≤ reference_room new
   pub names_fit : (p : ℕ) → (ended == p) ≡ false → name_room old p ≤ name_room new p
   pub deaths_fit : death_room old ≤ death_room new
-  pub objects_count : object_count new ≤ object_count old
   pub deaths_count : death_count new ≤ death_count old
 
 -- for the objects that a parcel makes, a reference and a name of the receiver for each of its items, and a reference to the target

@@ -1,21 +1,18 @@
--- What an object table stands for: the objects of a space, with the references to them, their names and death
--- notifications, each in a table of its own.
+-- What an object table stands for: the objects of a space, with the references to them and their names, which have records, and
+-- their death notifications, in a table of their own.
 use Rattle.std.specs.Prelude.{ℕ, ◌≡◌, List, Option}
 use Rattle.bd_ways.specs.Words.{Identity, Object, Reference, Name, DeathNotification, Space}
 use Rattle.bd_ways.specs.Tables.{IsAt}
 use Rattle.bd_processes.specs.declared.table.ProcessTable.{ProcessTable}
 use Rattle.bd_processes.specs.Stands.{ProcessesAre}
-use Rattle.bd_nodes.specs.Stands.{NodesAre}
-use Rattle.bd_holds.specs.Stands.{ReferencesAre}
-use Rattle.bd_handles.specs.Stands.{NamesAre}
+use Rattle.bd_records.specs.{Records.{RecordsAre}, Since.{Settled}}
 use Rattle.bd_deaths.specs.Stands.{DeathsAre}
 use Rattle.bd_objects.specs.declared.table.ObjectTable.{ObjectTable}
 
 pub record Stands (t : ObjectTable) (objects : List Object) (references : List Reference) (names : List Name)
     (deaths : List DeathNotification) : Type 0 where
-  pub objects_are : NodesAre t.nodes objects
-  pub references_are : ReferencesAre t.references references
-  pub names_are : NamesAre t.names names
+  pub records_are : RecordsAre t.records objects references
+  pub names_are : Settled t.records names
   pub deaths_are : DeathsAre t.deaths deaths
 
 abbrev pub StandsFor : ObjectTable → Space → Type 0

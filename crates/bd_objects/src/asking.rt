@@ -5,28 +5,28 @@ ghost use Rattle.bd_keys.specs.Tables as tables;
 ghost use Rattle.bd_space.specs.Words.{first_of};
 ghost use Rattle.bd_space.specs.Asking as asking;
 ghost use Rattle.bd_space.specs.{Names.{named_in as named_in_list}};
-ghost use Rattle.bd_handles.specs.Stands.{NamesAre};
+ghost use Rattle.bd_records.specs.NamesAre.{NamesAre};
 
 use crate::naming::give_asked_name;
-use crate::table::ObjectTable;
-use bd_handles::{NameTable, NumbersFull};
+use crate::table::{ANYWHERE, ObjectTable};
+use bd_records::{Near, NumbersFull, Records, named_object};
 use bd_space::{Holder, Identity, Object, Origin, Reference};
 use bd_uapi::Note;
 
 /// The object that the process means by the number: 0 is the context manager's while there is one.
-fn asked_in(manager: Option<Identity>, names: &NameTable, p: u64, n: u32) -> Option<Identity>
-    ensures { tables.Tells (NamesAre names.now) result
+fn asked_in(manager: Option<Identity>, records: &Records, p: u64, n: u32) -> Option<Identity>
+    ensures { tables.Tells (NamesAre records.now.names) result
         (λ l. if n == 0 then first_of (manager ∷ named_in_list l p 0 ∷ []) else named_in_list l p n) }
 {
     match manager {
         Some(o) if n == 0 => Some(o),
-        _ => names.named(p, n),
+        _ => named_object(&records.names, p, n, 0),
     }
 }
 
 impl ObjectTable {
     ghost use Rattle.bd_ways.specs.Tables.{Tells, Makes, TellsWhere, MakesWhere};
-    ghost use Rattle.bd_objects.specs.{Stands.{StandsFor, IsKept, HasManager, IsAtWith}, Numbers.{SpaceIsPastLimit}};
+    ghost use Rattle.bd_objects.specs.{Stands.{StandsFor, IsKept, HasManager, IsAtWith}, New.{IsAsked}, Numbers.{SpaceIsPastLimit}};
     ghost use Rattle.bd_objects.specs.Room.{Uses, UsesNothing, nothing, reference_room, name_room};
 
     /// The object that the process asks for by this number, weakly or strongly. Errors, the first that holds: no such
@@ -41,11 +41,11 @@ impl ObjectTable {
     ) -> Result<Identity, Note>
         ensures { TellsWhere (StandsFor self.now) (HasManager manager) result (λ s. asking.ask_check s p n strong) }
     {
-        let o = asked_in(manager, &self.names, p, n).ok_or(Note::NoSuchNumber)?;
-        if strong && !self.references.is_strong(o) {
+        let o = asked_in(manager, &self.records, p, n).ok_or(Note::NoSuchNumber)?;
+        if strong && !self.records.hold(o, 0).is_strong {
             return Err(Note::NotStrong);
         }
-        if self.nodes.owns(p, o) {
+        if self.records.owns(p, o, 0) {
             return Err(Note::OwnManager);
         }
         Ok(o)
@@ -53,7 +53,8 @@ impl ObjectTable {
 
     /// The reference that the process asks for, with a name for the object if it has none. All of it, or nothing where
     /// a number past the limit would be needed. Takes the context manager's object, and the number by which the process asked:
-    /// whichever that is, the same is done, but sooner where it is the object's.
+    /// whichever that is, the same is done, but sooner where it is the object's. Of a space in which the object is there, and
+    /// another's.
     #[tactic(auto, unfolding(bd_space::specs::Asking::ask, bd_space::specs::Names::assign_numbers, bd_space::specs::Names::names_go, crate::specs::Room::rooms))]
     pub fn ask(
         &mut self,
@@ -66,7 +67,7 @@ impl ObjectTable {
     ) -> Result<(), NumbersFull>
         requires references { 1 ≤ reference_room self.old }
         requires names { 1 ≤ name_room self.old p }
-        ensures ok { OnOk result (MakesWhere (StandsFor self.old) (IsAtWith place manager) (StandsFor self.new)
+        ensures ok { OnOk result (MakesWhere (StandsFor self.old) (IsAsked place manager p o) (StandsFor self.new)
             (λ s. asking.ask s p o strong)) }
         ensures err { OnErr result (IsKept self.old self.new) }
         ensures full { OnErr result (MakesWhere (StandsFor self.old) (IsAtWith place manager) SpaceIsPastLimit
@@ -75,13 +76,19 @@ impl ObjectTable {
     {
         self.sure_room = self.sure_room.saturating_sub(1);
         self.sure_names = self.sure_names.saturating_sub(1);
-        give_asked_name(&mut self.names, manager, &self.nodes, p, n, o)?;
-        self.references.push(Reference {
-            id: Origin { place, index: 0 },
-            object: o,
-            strong,
-            holder: Holder::Asked(p),
-        });
+        give_asked_name(&mut self.records, manager, p, n, o)?;
+        self.records.push(
+            Reference {
+                id: Origin { place, index: 0 },
+                object: o,
+                strong,
+                holder: Holder::Asked(p),
+            },
+            Near {
+                number: n,
+                ..ANYWHERE
+            },
+        );
         Ok(())
     }
 
@@ -91,8 +98,12 @@ impl ObjectTable {
     pub fn drop_check(&self, p: u64, n: u32, strong: bool) -> Result<Identity, Note>
         ensures { Tells (StandsFor self.now) result (λ s. asking.drop_check s p n strong) }
     {
-        let o = self.names.named(p, n).ok_or(Note::NoSuchNumber)?;
-        if !self.references.is_asked(p, o, strong) {
+        let o = named_object(&self.records.names, p, n, 0).ok_or(Note::NoSuchNumber)?;
+        let near = Near {
+            number: n,
+            ..ANYWHERE
+        };
+        if !self.records.is_asked(p, o, strong, near) {
             return Err(Note::NothingAsked);
         }
         Ok(o)
@@ -104,7 +115,7 @@ impl ObjectTable {
         ensures stands { Makes (StandsFor self.old) (StandsFor self.new) (λ s. asking.drop_asked s p o strong) }
         ensures uses { UsesNothing self.old self.new }
     {
-        self.references.drop_asked(p, o, strong);
+        self.records.drop_asked(p, o, strong, ANYWHERE);
     }
 
     /// The own object that the process acknowledges, by ptr and cookie. Errors: it has no such object, or that waits
@@ -114,10 +125,10 @@ impl ObjectTable {
         ensures { Tells (StandsFor self.now) result (λ s. asking.done_check s p ptr cookie strong) }
     {
         let x = self
-            .nodes
+            .records
             .own_with(p, ptr, cookie)
             .ok_or(Note::NoSuchObject)?;
-        if !self.references.is_shaken(x.id, strong) {
+        if !self.records.is_shaken(x.id, strong, 0) {
             return Err(Note::NoHandshake);
         }
         Ok(x)
@@ -129,6 +140,6 @@ impl ObjectTable {
         ensures stands { Makes (StandsFor self.old) (StandsFor self.new) (λ s. asking.acknowledge s o strong) }
         ensures uses { UsesNothing self.old self.new }
     {
-        self.references.drop_shaken(o, strong);
+        self.records.drop_shaken(o, strong, ANYWHERE);
     }
 }

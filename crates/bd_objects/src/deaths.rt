@@ -7,6 +7,7 @@ ghost use Rattle.bd_space.specs.ProcessExits.{tell_deaths};
 ghost use Rattle.bd_deaths.specs.Due as due;
 
 use crate::table::ObjectTable;
+use bd_records::named_object;
 use bd_space::{DeathNotification, Identity, Phase};
 use bd_uapi::Note;
 use std::alloc::{AllocError, Global};
@@ -22,7 +23,7 @@ impl ObjectTable {
     pub fn request_check(&self, p: u64, n: u32) -> Result<Identity, Note>
         ensures { Tells (StandsFor self.now) result (λ s. deaths_of.request_check s p n) }
     {
-        let o = self.names.named(p, n).ok_or(Note::NoSuchNumber)?;
+        let o = named_object(&self.records.names, p, n, 0).ok_or(Note::NoSuchNumber)?;
         if self.deaths.uncleared(p, o).is_some() {
             return Err(Note::AlreadyAsked);
         }
@@ -55,7 +56,7 @@ impl ObjectTable {
     pub fn clear_check(&self, p: u64, n: u32, cookie: u64) -> Result<DeathNotification, Note>
         ensures { Tells (StandsFor self.now) result (λ s. deaths_of.clear_check s p n cookie) }
     {
-        let o = self.names.named(p, n).ok_or(Note::NoSuchNumber)?;
+        let o = named_object(&self.records.names, p, n, 0).ok_or(Note::NoSuchNumber)?;
         let x = self.deaths.uncleared(p, o).ok_or(Note::NoneAsked)?;
         if x.cookie != cookie {
             return Err(Note::NoneAsked);
@@ -112,7 +113,7 @@ impl ObjectTable {
         ensures grown { OnErr result ((s : Space) → StandsFor self.now s
             → list_any (due.is_due s.objects p) s.deaths ≡ true) }
     {
-        self.deaths.due(alloc, &self.nodes, p)
+        self.deaths.due(alloc, &self.records, p)
     }
 
     /// Queues the notifications by which the end of the process is to be told. Their work items are the caller's to
@@ -122,6 +123,6 @@ impl ObjectTable {
         ensures stands { Makes (StandsFor self.old) (StandsFor self.new) (λ s. tell_deaths s p) }
         ensures uses { UsesNothing self.old self.new }
     {
-        self.deaths.queue_due(&self.nodes, p);
+        self.deaths.queue_due(&self.records, p);
     }
 }

@@ -1,47 +1,17 @@
 //! What goes when a process ends.
 
-ghost use Rattle.std.specs.Prelude.{◌≡◌, ◌==◌, ◌≤◌, ◌&&◌, ◌||◌, ◌++◌, true, not, map, filter, List, OnOk, OnErr};
+ghost use Rattle.std.specs.Prelude.{◌≡◌, ◌==◌, ◌||◌, ◌++◌, true, map, filter, OnOk, OnErr};
 ghost use Rattle.std.specs.List.{list_any};
-ghost use Rattle.bd_space.specs.{declared.space.Object.{Object}, declared.space.Reference.{Reference}, Words.{same}};
-ghost use Rattle.bd_space.specs.References.{owned_in, is_of_owner};
 ghost use Rattle.bd_space.specs.ProcessExits as process_exits;
-ghost use Rattle.bd_nodes.specs.Stands.{NodesAre};
-ghost use Rattle.bd_holds.specs.{Stands.{ReferencesAre}, Room.{reference_room}};
 
 use crate::table::ObjectTable;
-use bd_holds::ReferenceTable;
-use bd_nodes::NodeTable;
 use bd_space::Identity;
 use std::alloc::AllocError;
-
-// The references go that the process has as owner of this object, if it owns it.
-fn remove_of_owner(references: &mut ReferenceTable, nodes: &NodeTable, p: u64, o: Identity)
-    ensures stands { (objects : List Object) (l : List Reference) → NodesAre nodes.now objects
-        → ReferencesAre references.old l → ReferencesAre references.new
-        (filter (λ r. not ((owned_in objects p r.object && is_of_owner r.holder) && same r.object o)) l) }
-    ensures uses { reference_room references.old ≤ reference_room references.new }
-{
-    if nodes.owns(p, o) {
-        references.remove_of_owner(o);
-    }
-}
-
-// The references go that the process has as owner of its objects.
-fn remove_of_owned(references: &mut ReferenceTable, nodes: &NodeTable, p: u64)
-    ensures stands { (objects : List Object) (l : List Reference) → NodesAre nodes.now objects
-        → ReferencesAre references.old l → ReferencesAre references.new
-        (filter (λ r. not (owned_in objects p r.object && is_of_owner r.holder)) l) }
-    ensures uses { reference_room references.old ≤ reference_room references.new }
-{
-    for o in nodes.listed(p) {
-        remove_of_owner(references, nodes, p, o);
-    }
-}
 
 impl ObjectTable {
     ghost use Rattle.bd_space.specs.Space.{Space};
     ghost use Rattle.bd_ways.specs.Tables.{Makes};
-    ghost use Rattle.bd_nodes.specs.New.{HasAll};
+    ghost use Rattle.bd_records.specs.New.{HasAll};
     ghost use Rattle.bd_objects.specs.{Stands.{StandsFor}, Room.{UsesNothingBut}};
 
     /// The references, names and death notifications go that go with the process.
@@ -52,9 +22,9 @@ impl ObjectTable {
     {
         // It may be the process for whose names there was room.
         self.sure_names = 0;
-        self.references.remove_with_process(p);
-        remove_of_owned(&mut self.references, &self.nodes, p);
-        self.names.remove_process(p);
+        self.records.remove_with_process(p);
+        self.records.remove_of_owned(p);
+        self.records.remove_process_names(p);
         self.deaths.remove_process(p);
     }
 
@@ -74,8 +44,8 @@ impl ObjectTable {
             → (list_any (λ x. x.owner == p) s.objects
             || list_any (process_exits.is_dropped_with s.objects p) s.references) ≡ true) }
     {
-        self.nodes.owned_by(p, touched)?;
+        self.records.owned_by(p, touched)?;
         // Those that go because it owns the object are on objects that stand there already.
-        self.references.dropped_with_process(p, touched)
+        self.records.dropped_with_process(p, touched)
     }
 }

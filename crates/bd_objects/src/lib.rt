@@ -17,8 +17,7 @@ mod room;
 mod table;
 mod touched;
 
-pub use bd_handles::NumbersFull;
-pub use bd_holds::CarriedObjects;
+pub use bd_records::{CarriedObjects, NumbersFull};
 pub use made::Made;
 pub use room::Room;
 pub use table::ObjectTable;

@@ -4,10 +4,12 @@ ghost use Rattle.std.specs.{Prelude.{◌&&◌, not}, List.{list_any}};
 ghost use Rattle.bd_space.specs.Words.{same};
 ghost use Rattle.bd_space.specs.References as refer;
 ghost use Rattle.bd_space.specs.Names as names_of;
+ghost use Rattle.bd_space.specs.Notices.{is_name_of};
 ghost use Rattle.bd_space.specs.Space.{Space};
-ghost use Rattle.bd_handles.specs.Numbers.{IsNextNumber};
+ghost use Rattle.bd_records.specs.Numbers.{IsNextNumber};
 
-use crate::table::ObjectTable;
+use crate::table::{ANYWHERE, ObjectTable};
+use bd_records::{name_number, named_object, next_number};
 use bd_space::Identity;
 
 impl ObjectTable {
@@ -19,21 +21,21 @@ impl ObjectTable {
     pub fn named(&self, p: u64, n: u32) -> Option<Identity>
         ensures { Tells (StandsFor self.now) result (λ s. names_of.named s p n) }
     {
-        self.names.named(p, n)
+        named_object(&self.records.names, p, n, 0)
     }
 
     /// The least number from this one on that names something for the process. Looks at each number up to it.
     pub fn next_number(&self, p: u64, from: u32) -> Option<u32>
         ensures { (s : Space) → StandsFor self.now s → IsNextNumber s.names p from result }
     {
-        self.names.next_number(p, from)
+        next_number(&self.records.names, p, from, 0)
     }
 
     /// Whether the process is to have a name for the object: it is another's, and a reference carries the name.
     pub(crate) fn is_named(&self, p: u64, o: Identity) -> bool
         ensures { Tells (StandsFor self.now) result (λ s. names_of.is_named_in s.objects s.references p o) }
     {
-        !self.nodes.owns(p, o) && self.references.refers(p, o)
+        !self.records.owns(p, o, 0) && self.records.refers(p, o, ANYWHERE)
     }
 
     /// The same, where a strong reference carries it.
@@ -42,7 +44,7 @@ impl ObjectTable {
             (λ s. not (refer.owned_in s.objects p o)
             && list_any (λ r. r.strong && same r.object o && refer.gives_name_to p r.holder) s.references) }
     {
-        !self.nodes.owns(p, o) && self.references.refers_strongly(p, o)
+        !self.records.owns(p, o, 0) && self.records.refers_strongly(p, o, ANYWHERE)
     }
 
     /// The object that the number names for the process, where the process refers to it strongly.
@@ -50,7 +52,7 @@ impl ObjectTable {
     pub fn strongly_named(&self, p: u64, n: u32) -> Option<Identity>
         ensures { Tells (StandsFor self.now) result (λ s. names_of.strongly_named s p n) }
     {
-        let o = self.names.named(p, n)?;
+        let o = named_object(&self.records.names, p, n, 0)?;
         if self.is_strongly_named(p, o) {
             Some(o)
         } else {
@@ -58,10 +60,17 @@ impl ObjectTable {
         }
     }
 
+    /// Whether the process has a name for the object.
+    pub(crate) fn has_name(&self, p: u64, o: Identity) -> bool
+        ensures { Tells (StandsFor self.now) result (λ s. is_name_of s.names p o) }
+    {
+        name_number(&self.records.names, p, o, 0, 0).is_some()
+    }
+
     /// The process's number of the object.
     pub fn number_of(&self, p: u64, o: Identity) -> Option<u32>
         ensures { Tells (StandsFor self.now) result (λ s. names_of.number_in s.names p o) }
     {
-        self.names.number_of(p, o)
+        name_number(&self.records.names, p, o, 0, 0)
     }
 }

@@ -3,18 +3,16 @@
 
 ghost use Rattle.std.specs.Prelude.{◌≡◌, ◌==◌, ◌≤◌, ◌++◌, length, map, fold, false, List, Option, OnOk, OnErr};
 ghost use Rattle.std.specs.List.{list_any};
-ghost use Rattle.bd_keys.specs.Tables.{Makes, Tells};
 ghost use Rattle.bd_space.specs.References as refer;
 ghost use Rattle.bd_space.specs.Names as names_of;
 ghost use Rattle.bd_space.specs.{Parcels.{object_of_item}, declared.space.Name.{Name}, declared.space.Object.{Object}};
 ghost use Rattle.bd_space.specs.{declared.space.Reference.{Reference}, declared.step.Identity.{Identity}};
-ghost use Rattle.bd_nodes.specs.Stands.{NodesAre};
-ghost use Rattle.bd_handles.specs.Stands as handles;
-ghost use Rattle.bd_handles.specs.{Stands.{NamesAre, name_room, Uses}, Numbers.{IsFull}};
+ghost use Rattle.bd_records.specs.Numbers.{IsFull};
+ghost use Rattle.bd_records.specs.{Records.{RecordsAre}, NamesAre.{NamesAre}, Since.{Since, Settled, given_room}, Room.{Uses}};
 ghost use Rattle.bd_objects.specs.{Naming.{with_name_unless, with_other_name, AreReferred}, Numbers.{IsPastLimit}};
 
-use bd_handles::{NameTable, NumbersFull};
-use bd_nodes::NodeTable;
+use crate::table::ANYWHERE;
+use bd_records::{NumbersFull, Records, named_object};
 use bd_space::{Identity, Item, Object};
 
 fn is_managers(manager: Option<Identity>, o: Identity) -> bool
@@ -28,47 +26,56 @@ fn is_managers(manager: Option<Identity>, o: Identity) -> bool
 
 /// Gives the process a number for the object, unless that is its own or has one: 0 is for the context manager's object.
 pub(crate) fn give_name(
-    names: &mut NameTable,
+    records: &mut Records,
     manager: Option<Identity>,
     own: bool,
     p: u64,
     o: Identity,
 ) -> Result<(), NumbersFull>
-    requires { 1 ≤ name_room names.old p }
-    ensures ok { OnOk result (handles.Makes names.old names.new (λ l. with_name_unless own manager p l o)) }
-    ensures err { OnErr result (handles.Makes names.old names.new (λ l. l)) }
+    requires { 1 ≤ given_room records.old p }
+    ensures stands { OnOk result ((objects : List Object) (l : List Reference)
+        → (own ≡ false → refer.owned_in objects p o ≡ false) → RecordsAre records.old objects l → RecordsAre records.new objects l) }
+    ensures names { OnOk result ((base l : List Name) → Since records.old base l
+        → Since records.new base (with_name_unless own manager p l o)) }
+    ensures err { OnErr result (records.new ≡ records.old) }
     ensures other { OnErr result (own ≡ false) }
-    ensures full { OnErr result (handles.Knows names.old (λ l. IsFull (names_of.is_managers manager o) p l o)) }
-    ensures uses { Uses names.old names.new 1 }
+    ensures full { OnErr result ((l : List Name) → NamesAre records.old.names l
+        → IsFull (names_of.is_managers manager o) p l o) }
+    ensures uses { Uses records.old records.new 0 0 1 }
 {
     if own {
         return Ok(());
     }
-    names.give(is_managers(manager, o), p, o)
+    records.give_name(is_managers(manager, o), p, o, ANYWHERE)
 }
 
 /// The same for a process that asked for the object by a number: where that is the object's already, nothing else is looked at.
 pub(crate) fn give_asked_name(
-    names: &mut NameTable,
+    records: &mut Records,
     manager: Option<Identity>,
-    nodes: &NodeTable,
     p: u64,
     n: u32,
     o: Identity,
 ) -> Result<(), NumbersFull>
-    requires { 1 ≤ name_room names.old p }
-    ensures ok { OnOk result ((objects : List Object) (l : List Name) → NodesAre nodes.now objects
-        → NamesAre names.old l → NamesAre names.new (with_other_name manager objects p l o)) }
-    ensures err { OnErr result (Makes (NamesAre names.old) (NamesAre names.new) (λ l. l)) }
-    ensures other { OnErr result ((objects : List Object) → NodesAre nodes.now objects → refer.owned_in objects p o ≡ false) }
-    ensures full { OnErr result ((l : List Name) → NamesAre names.old l → IsFull (names_of.is_managers manager o) p l o) }
-    ensures uses { Uses names.old names.new 1 }
+    requires { 1 ≤ given_room records.old p }
+    ensures stands { (objects : List Object) (l : List Reference)
+        → RecordsAre records.old objects l → RecordsAre records.new objects l }
+    ensures names { OnOk result ((objects : List Object) (references : List Reference) (l : List Name)
+        → RecordsAre records.old objects references → Settled records.old l
+        → Settled records.new (with_other_name manager objects p l o)) }
+    ensures err { OnErr result (records.new ≡ records.old) }
+    ensures other { OnErr result ((objects : List Object) (references : List Reference)
+        → RecordsAre records.old objects references → refer.owned_in objects p o ≡ false) }
+    ensures full { OnErr result ((l : List Name) → NamesAre records.old.names l
+        → IsFull (names_of.is_managers manager o) p l o) }
+    ensures uses { Uses records.old records.new 0 0 1 }
 {
-    if names.named(p, n) == Some(o) {
+    if named_object(&records.names, p, n, 0) == Some(o) {
         return Ok(());
     }
-    give_name(names, manager, nodes.owns(p, o), p, o)?;
-    names.settle();
+    let own = records.owns(p, o, 0);
+    give_name(records, manager, own, p, o)?;
+    records.settle_names();
     Ok(())
 }
 
@@ -92,43 +99,45 @@ fn made_by<'a>(made: &'a [Object], p: u64) -> &'a [Object]
 }
 
 /// Whether the process owns the object, one of these or one of those that are being made.
-fn is_own(nodes: &NodeTable, made: &[Object], p: u64, o: Identity) -> bool
-    ensures { Tells (NodesAre nodes.now) result (λ objects. refer.owned_in (objects ++ made.now) p o) }
+fn is_own(records: &Records, made: &[Object], p: u64, o: Identity) -> bool
+    ensures { (objects : List Object) (l : List Reference) → RecordsAre records.now objects l
+        → result ≡ refer.owned_in (objects ++ made.now) p o }
 {
-    nodes.owns(p, o) || owned_in(made, p, o)
+    records.owns(p, o, 0) || owned_in(made, p, o)
 }
 
 /// Gives the process a number for the object of each item, in their order, unless it is its own, or nothing where a
 /// number past the limit would be needed.
 pub(crate) fn give_names(
-    names: &mut NameTable,
+    records: &mut Records,
     manager: Option<Identity>,
-    nodes: &NodeTable,
     made: &[Object],
     p: u64,
     items: &[Item],
 ) -> Result<(), NumbersFull>
-    requires { length items.now ≤ name_room names.old p }
-    ensures ok { OnOk result ((objects : List Object) (l : List Name) → NodesAre nodes.now objects
-        → NamesAre names.old l → NamesAre names.new
+    requires { length items.now ≤ given_room records.old p }
+    ensures stands { (objects : List Object) (l : List Reference) (names : List Name) → Settled records.old names
+        → RecordsAre records.old objects l → RecordsAre records.new objects l }
+    ensures names { OnOk result ((objects : List Object) (references : List Reference) (l : List Name)
+        → RecordsAre records.old objects references → Settled records.old l → Settled records.new
         (fold (with_other_name manager (objects ++ made.now) p) l (map object_of_item items.now))) }
-    ensures err { OnErr result ((objects : List Object) (l : List Name) → NodesAre nodes.now objects
-        → NamesAre names.old l → NamesAre names.new l) }
-    ensures full { OnErr result ((objects : List Object) (references : List Reference) (l : List Name)
-        → NodesAre nodes.now objects → AreReferred references p (map object_of_item items.now)
-        → NamesAre names.old l → IsPastLimit (objects ++ made.now) references
+    ensures err { OnErr result ((objects : List Object) (references : List Reference) (l : List Name)
+        → RecordsAre records.old objects references → Settled records.old l → Settled records.new l) }
+    ensures full { OnErr result ((objects : List Object) (references all : List Reference) (l : List Name)
+        → RecordsAre records.old objects references → AreReferred all p (map object_of_item items.now)
+        → Settled records.old l → IsPastLimit (objects ++ made.now) all
         (fold (with_other_name manager (objects ++ made.now) p) l (map object_of_item items.now))) }
-    ensures uses { Uses names.old names.new (length items.now) }
+    ensures uses { Uses records.old records.new 0 0 (length items.now) }
 {
     let made = made_by(made, p);
     for x in items {
-        let own = is_own(nodes, made, p, x.object);
-        let given = give_name(names, manager, own, p, x.object);
+        let own = is_own(records, made, p, x.object);
+        let given = give_name(records, manager, own, p, x.object);
         if given.is_err() {
-            names.roll_back();
+            records.roll_back_names();
             return given;
         }
     }
-    names.settle();
+    records.settle_names();
     Ok(())
 }

@@ -6,8 +6,8 @@ ghost use Rattle.bd_space.specs.Notices as notices;
 ghost use Rattle.bd_objects.specs.Telling.{differs};
 
 use crate::table::ObjectTable;
-use bd_holds::Hold;
 use bd_processes::ProcessTable;
+use bd_records::Hold;
 use bd_space::Object;
 
 // Whether what the owner was told isn't what is so.
@@ -44,6 +44,6 @@ impl ObjectTable {
         ensures { TellsWhere (StandsFor self.now) (HasProcesses processes.now) result
             (λ s. notices.wants_notice s.processes s.references x.now) }
     {
-        owner_to_tell(self.references.hold(x.id), processes.lives(x.owner), x).is_some()
+        owner_to_tell(self.records.hold(x.id, 0), processes.lives(x.owner), x).is_some()
     }
 }

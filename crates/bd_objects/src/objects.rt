@@ -3,8 +3,9 @@
 ghost use Rattle.std.specs.Prelude.{◌≡◌, ◌≤◌, if◌then◌else◌, Option, Some, None, option_and_then};
 ghost use Rattle.bd_space.specs.References as refer;
 
-use crate::table::ObjectTable;
+use crate::table::{ANYWHERE, ObjectTable};
 use bd_processes::ProcessTable;
+use bd_records::Near;
 use bd_space::{Holder, Identity, Object, Origin, Reference};
 
 fn managed(place: u64) -> Identity
@@ -24,14 +25,14 @@ impl ObjectTable {
     pub fn object(&self, o: Identity) -> Option<Object>
         ensures { Tells (StandsFor self.now) result (λ s. refer.object_in s.objects o) }
     {
-        self.nodes.object(o)
+        self.records.object(o, 0)
     }
 
     /// Whether the process owns the object.
     pub fn owns(&self, p: u64, o: Identity) -> bool
         ensures { Tells (StandsFor self.now) result (λ s. refer.owned_in s.objects p o) }
     {
-        self.nodes.owns(p, o)
+        self.records.owns(p, o, 0)
     }
 
     /// Whether the object's owner lives. Takes the live processes.
@@ -39,7 +40,7 @@ impl ObjectTable {
         ensures { TellsWhere (StandsFor self.now) (HasProcesses processes.now) result
             (λ s. is_some_and (refer.object_in s.objects o) (λ x. lives_in s.processes x.owner)) }
     {
-        match self.nodes.object(o) {
+        match self.records.object(o, 0) {
             Some(x) => processes.lives(x.owner),
             None => false,
         }
@@ -49,7 +50,7 @@ impl ObjectTable {
     pub fn own_with_ptr(&self, p: u64, ptr: u64) -> Option<Object>
         ensures { Tells (StandsFor self.now) result (λ s. refer.own_in s.objects p ptr) }
     {
-        self.nodes.own_with_ptr(p, ptr)
+        self.records.own_with_ptr(p, ptr)
     }
 
     /// The context manager's object, with its reference: the object has ptr 0 and cookie 0, and its owner counts as
@@ -65,7 +66,7 @@ impl ObjectTable {
     {
         self.sure_room = self.sure_room.saturating_sub(1);
         let id = managed(place);
-        self.nodes.push(Object {
+        let object = self.records.add_object(Object {
             id,
             owner: p,
             ptr: 0,
@@ -73,12 +74,15 @@ impl ObjectTable {
             told_weak: true,
             told_strong: true,
         });
-        self.references.push(Reference {
-            id: Origin { place, index: 0 },
-            object: id,
-            strong: true,
-            holder: Holder::Manager,
-        });
+        self.records.push(
+            Reference {
+                id: Origin { place, index: 0 },
+                object: id,
+                strong: true,
+                holder: Holder::Manager,
+            },
+            Near { object, ..ANYWHERE },
+        );
     }
 
     /// The context manager's object that is left when the process has ended.
@@ -87,7 +91,7 @@ impl ObjectTable {
             (λ s. option_and_then (λ o. if refer.owned_in s.objects p o then None else Some o) manager) }
     {
         match manager {
-            Some(o) if self.nodes.owns(p, o) => None,
+            Some(o) if self.records.owns(p, o, 0) => None,
             _ => manager,
         }
     }

@@ -1,16 +1,16 @@
 //! The objects that a parcel sends.
 
-ghost use Rattle.std.specs.Prelude.{◌≡◌, ◌==◌, ◌<◌, ◌%◌, ◌^◌, ◌++◌, length, Option, Result};
-ghost use Rattle.bd_keys.specs.Tables.{Tells};
+ghost use Rattle.std.specs.Prelude.{◌≡◌, ◌==◌, ◌<◌, ◌%◌, ◌^◌, ◌++◌, length, List, Option, Result};
 ghost use Rattle.bd_space.specs.References as refer;
 ghost use Rattle.bd_space.specs.Parcels as parcels;
 ghost use Rattle.bd_space.specs.declared.space.Object.{Object};
-ghost use Rattle.bd_nodes.specs.Stands.{NodesAre};
+ghost use Rattle.bd_records.specs.Records.{RecordsAre};
+ghost use Rattle.bd_space.specs.declared.space.Reference.{Reference};
 ghost use Rattle.bd_objects.specs.Made.{made_items};
 
 use crate::made::Made;
 use crate::table::ObjectTable;
-use bd_nodes::NodeTable;
+use bd_records::Records;
 use bd_space::{Identity, Object, Resolved};
 use bd_uapi::{Cause, FlatObject, ObjectKind};
 
@@ -22,10 +22,11 @@ fn handle_in(binder: u64) -> u32
 }
 
 /// The process's own object with this ptr, one of these or one of those that are being made.
-fn own_or_made(nodes: &NodeTable, made: &Made, p: u64, ptr: u64) -> Option<Object>
-    ensures { Tells (NodesAre nodes.now) result (λ objects. refer.own_in (objects ++ made_items made.now) p ptr) }
+fn own_or_made(records: &Records, made: &Made, p: u64, ptr: u64) -> Option<Object>
+    ensures { (objects : List Object) (l : List Reference) → RecordsAre records.now objects l
+        → result ≡ refer.own_in (objects ++ made_items made.now) p ptr }
 {
-    match nodes.own_with_ptr(p, ptr) {
+    match records.own_with_ptr(p, ptr) {
         Some(x) => Some(x),
         None => made.find_own(p, ptr),
     }
@@ -78,7 +79,7 @@ impl ObjectTable {
     {
         match x.kind {
             ObjectKind::Binder | ObjectKind::WeakBinder => {
-                match own_or_made(&self.nodes, made, p, x.binder) {
+                match own_or_made(&self.records, made, p, x.binder) {
                     None => {
                         let o = new_object(place, p, made.as_slice(), x);
                         Ok(Resolved {

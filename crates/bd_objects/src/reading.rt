@@ -1,8 +1,7 @@
 //! What owners are told of their objects by reading.
 
-ghost use Rattle.std.specs.Prelude.{◌≡◌, ◌≤◌, ◌+◌, ◌*◌, ◌++◌, ℕ, List, length};
+ghost use Rattle.std.specs.Prelude.{◌≡◌, ◌≤◌, ◌+◌, ◌*◌, ◌++◌, ◌||◌, true, ℕ, List, length};
 ghost use Rattle.std.specs.List.{flat_map};
-ghost use Rattle.bd_keys.specs.Tables as tables;
 ghost use Rattle.bd_space.specs.{Words.{changed, when, is_some_and, option_to_list, same as same_object}, Todo.{notice_of}};
 ghost use Rattle.bd_space.specs.References as refer;
 ghost use Rattle.bd_space.specs.ReadItems as reading;
@@ -10,14 +9,12 @@ ghost use Rattle.bd_space.specs.Returns as returns;
 ghost use Rattle.bd_space.specs.{Space.{Space}, declared.space.Object.{Object}};
 ghost use Rattle.bd_ways.specs.Tables.{IsAt};
 ghost use Rattle.bd_space.specs.{declared.space.Reference.{Reference}, declared.space.Holder.TheVariants.{Handshake}};
-ghost use Rattle.bd_nodes.specs.Stands.{NodesAre};
-ghost use Rattle.bd_nodes.specs.Room as node_rooms;
-ghost use Rattle.bd_holds.specs.{Stands.{ReferencesAre}, Room.{reference_room as room_in}};
-ghost use Rattle.bd_objects.specs.Reading.{owed, HoldsAlike};
+ghost use Rattle.bd_records.specs.{Records.{RecordsAre, Tells as TellsOf, reference_room as room_in}, Since.{KeepsSettled}};
+ghost use Rattle.bd_records.specs.Room as rooms_of;
+ghost use Rattle.bd_objects.specs.{Reading.{owed, HoldsAlike}, New.{IsHere}};
 
-use crate::table::ObjectTable;
-use bd_holds::{Hold, ReferenceTable};
-use bd_nodes::NodeTable;
+use crate::table::{ANYWHERE, ObjectTable};
+use bd_records::{Hold, Records};
 use bd_space::{Holder, Identity, Object, Origin, Reference, Work, WorkKind};
 use bd_uapi::Return;
 
@@ -29,11 +26,10 @@ fn return_when(test: bool, r: Return) -> Option<Return>
 }
 
 /// What the owner of this object is told, by the references as they stand.
-fn notice_returns_of(references: &ReferenceTable, x: &Object) -> [Option<Return>; 4]
-    ensures { tables.Tells (ReferencesAre references.now) (flat_map option_to_list result)
-        (λ l. returns.notice_returns l x.now) }
+fn notice_returns_of(records: &Records, x: &Object) -> [Option<Return>; 4]
+    ensures { TellsOf records.now (flat_map option_to_list result) (λ l. returns.notice_returns l x.now) }
 {
-    let Hold { is_held, is_strong } = references.hold(x.id);
+    let Hold { is_held, is_strong } = records.hold(x.id, 0);
     [
         return_when(is_held && !x.told_weak, Return::Increfs(x.ptr, x.cookie)),
         return_when(
@@ -59,41 +55,42 @@ fn notice_of(kind: WorkKind) -> Option<Identity>
 }
 
 /// The owner of a notice's object knows what is so.
-fn tell_owner(nodes: &mut NodeTable, references: &ReferenceTable, kind: WorkKind)
-    ensures stands { (objects : List Object) (l : List Reference) → NodesAre nodes.old objects
-        → ReferencesAre references.now l → NodesAre nodes.new
-        (changed (λ x. is_some_and (notice_of kind) (same_object x.id)) (reading.told_of l) objects) }
-    ensures uses { node_rooms.Uses nodes.old nodes.new 0 }
+fn tell_owner(records: &mut Records, kind: WorkKind)
+    ensures stands { (objects : List Object) (l : List Reference) → RecordsAre records.old objects l → RecordsAre records.new
+        (changed (λ x. is_some_and (notice_of kind) (same_object x.id)) (reading.told_of l) objects) l }
+    ensures names { KeepsSettled records.old records.new }
+    ensures uses { rooms_of.Uses records.old records.new 0 0 0 }
 {
     match notice_of(kind) {
         Some(o) => {
-            let hold = references.hold(o);
-            nodes.set_told(o, hold.is_held, hold.is_strong);
+            let hold = records.hold(o, 0);
+            records.set_told(o, hold.is_held, hold.is_strong, 0);
         }
         None => {}
     }
 }
 
-fn tell_owners(nodes: &mut NodeTable, references: &ReferenceTable, taken: &[Work])
-    ensures stands { (objects : List Object) (l : List Reference) → NodesAre nodes.old objects
-        → ReferencesAre references.now l → NodesAre nodes.new
-        (changed (λ x. reading.is_told_by taken.now x.id) (reading.told_of l) objects) }
-    ensures uses { node_rooms.Uses nodes.old nodes.new 0 }
+fn tell_owners(records: &mut Records, taken: &[Work])
+    ensures stands { (objects : List Object) (l : List Reference) → RecordsAre records.old objects l → RecordsAre records.new
+        (changed (λ x. reading.is_told_by taken.now x.id) (reading.told_of l) objects) l }
+    ensures names { KeepsSettled records.old records.new }
+    ensures uses { rooms_of.Uses records.old records.new 0 0 0 }
 {
     for w in taken {
-        tell_owner(nodes, references, w.kind);
+        tell_owner(records, w.kind);
     }
 }
 
 /// Whether the owner is to acknowledge the object weakly, and strongly, once it has read what it is to be told.
-fn acknowledgements(nodes: &NodeTable, references: &ReferenceTable, o: Identity) -> (bool, bool)
-    ensures { (objects : List Object) (l : List Reference) → NodesAre nodes.now objects
-        → ReferencesAre references.now l
+fn acknowledgements(records: &Records, o: Identity) -> (bool, bool)
+    ensures owed { (objects : List Object) (l : List Reference) → RecordsAre records.now objects l
         → flat_map reading.shakes (returns.returns_of_object l (refer.object_in objects o)) ≡ owed result.0 result.1 }
+    ensures here { (objects : List Object) (l : List Reference) → RecordsAre records.now objects l
+        → (result.0 || result.1) ≡ true → IsHere o objects }
 {
-    match nodes.object(o) {
+    match records.object(o, 0) {
         Some(x) => {
-            let hold = references.hold(x.id);
+            let hold = records.hold(x.id, 0);
             (
                 hold.is_held && !x.told_weak,
                 hold.is_strong && !x.told_strong,
@@ -103,29 +100,32 @@ fn acknowledgements(nodes: &NodeTable, references: &ReferenceTable, o: Identity)
     }
 }
 
-/// The references that stand for these acknowledgements, of this index and the next. Gives the index after them.
+/// The references that stand for these acknowledgements, of this index and the next, of an object that is there. Gives the
+/// index after them.
 fn add_acknowledgements(
-    references: &mut ReferenceTable,
+    records: &mut Records,
     place: u64,
     index: u64,
     o: Identity,
     weak: bool,
     strong: bool,
 ) -> u64
-    requires room { 2 ≤ room_in references.old }
+    requires room { 2 ≤ room_in records.old }
     requires index { index + 2 ≤ 18446744073709551615 }
-    ensures stands { tables.Makes (ReferencesAre references.old) (ReferencesAre references.new)
-        (λ l. l ++ reading.handshakes_for place index o (owed weak strong)) }
+    ensures stands { (objects : List Object) (l : List Reference) → RecordsAre records.old objects l
+        → ((weak || strong) ≡ true → IsHere o objects)
+        → RecordsAre records.new objects (l ++ reading.handshakes_for place index o (owed weak strong)) }
+    ensures names { KeepsSettled records.old records.new }
     ensures index { result ≡ index + length (owed weak strong) }
-    ensures uses { room_in references.old ≤ room_in references.new + 2 }
+    ensures uses { rooms_of.Uses records.old records.new 0 2 0 }
 {
     let mut next = index;
     if weak {
-        references.push(handshake(place, next, o, false));
+        records.push(handshake(place, next, o, false), ANYWHERE);
         next += 1;
     }
     if strong {
-        references.push(handshake(place, next, o, true));
+        records.push(handshake(place, next, o, true), ANYWHERE);
         next += 1;
     }
     next
@@ -145,40 +145,35 @@ fn handshake(place: u64, index: u64, o: Identity, strong: bool) -> Reference
 /// The references that stand for what a work item leaves to be acknowledged, from this index. Gives the index after
 /// them. What is held, and strongly, is what was so before the reading.
 #[tactic(auto, unfolding(bd_space::specs::Returns::returns_of))]
-fn add_handshakes_of(
-    references: &mut ReferenceTable,
-    nodes: &NodeTable,
-    place: u64,
-    index: u64,
-    kind: WorkKind,
-) -> u64
-    requires room { 2 ≤ room_in references.old }
+fn add_handshakes_of(records: &mut Records, place: u64, index: u64, kind: WorkKind) -> u64
+    requires room { 2 ≤ room_in records.old }
     requires index { index + 2 ≤ 18446744073709551615 }
-    ensures stands { (s : Space) (l : List Reference) → NodesAre nodes.now s.objects → IsAt place s
-        → HoldsAlike s.references l → ReferencesAre references.old l
-        → ReferencesAre references.new (l ++ reading.handshakes_of s index kind)
+    ensures stands { (s : Space) (l : List Reference) → IsAt place s
+        → HoldsAlike s.references l → RecordsAre records.old s.objects l
+        → RecordsAre records.new s.objects (l ++ reading.handshakes_of s index kind)
         × (result ≡ index + length (reading.handshakes_of s index kind)) }
+    ensures names { KeepsSettled records.old records.new }
     ensures index { result ≤ index + 2 }
-    ensures uses { room_in references.old ≤ room_in references.new + 2 }
+    ensures uses { rooms_of.Uses records.old records.new 0 2 0 }
 {
     let WorkKind::Notice(o) = kind else {
         return index;
     };
-    let (weak, strong) = acknowledgements(nodes, references, o);
-    add_acknowledgements(references, place, index, o, weak, strong)
+    let (weak, strong) = acknowledgements(records, o);
+    add_acknowledgements(records, place, index, o, weak, strong)
 }
 
 /// The references that stand for what is left to be acknowledged.
-fn add_handshakes(references: &mut ReferenceTable, nodes: &NodeTable, place: u64, taken: &[Work])
-    requires { 2 * length taken.now ≤ room_in references.old }
-    ensures stands { (s : Space) → NodesAre nodes.now s.objects → IsAt place s
-        → ReferencesAre references.old s.references
-        → ReferencesAre references.new (s.references ++ reading.handshakes s 0 taken.now) }
-    ensures uses { room_in references.old ≤ room_in references.new + 2 * length taken.now }
+fn add_handshakes(records: &mut Records, place: u64, taken: &[Work])
+    requires { 2 * length taken.now ≤ room_in records.old }
+    ensures stands { (s : Space) → IsAt place s → RecordsAre records.old s.objects s.references
+        → RecordsAre records.new s.objects (s.references ++ reading.handshakes s 0 taken.now) }
+    ensures names { KeepsSettled records.old records.new }
+    ensures uses { rooms_of.Uses records.old records.new 0 (2 * length taken.now) 0 }
 {
     let mut index = 0;
     for w in taken {
-        index = add_handshakes_of(references, nodes, place, index, w.kind);
+        index = add_handshakes_of(records, place, index, w.kind);
     }
 }
 
@@ -192,8 +187,8 @@ impl ObjectTable {
         ensures { Tells (StandsFor self.now) (flat_map option_to_list result)
             (λ s. returns.returns_of_object s.references (refer.object_in s.objects o)) }
     {
-        match self.nodes.object(o) {
-            Some(x) => notice_returns_of(&self.references, &x),
+        match self.records.object(o, 0) {
+            Some(x) => notice_returns_of(&self.records, &x),
             None => [None, None, None, None],
         }
     }
@@ -213,8 +208,8 @@ impl ObjectTable {
             .saturating_sub(taken.len());
         // What is owed is told by the old told values. An acknowledgement keeps an object that is kept already: what
         // is held is the same afterwards.
-        add_handshakes(&mut self.references, &self.nodes, place, taken);
-        tell_owners(&mut self.nodes, &self.references, taken);
+        add_handshakes(&mut self.records, place, taken);
+        tell_owners(&mut self.records, taken);
         self.deaths.read(taken);
     }
 }

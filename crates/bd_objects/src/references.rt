@@ -4,21 +4,21 @@ ghost use Rattle.std.specs.Prelude.{◌++◌, map, filter, OnOk};
 ghost use Rattle.bd_space.specs.References as refer;
 
 use crate::table::ObjectTable;
-use bd_holds::CarriedObjects;
+use bd_records::CarriedObjects;
 use bd_space::Identity;
 use std::alloc::AllocError;
 
 impl ObjectTable {
     ghost use Rattle.bd_space.specs.Freeing as freeing;
     ghost use Rattle.bd_ways.specs.Tables.{Tells, Makes};
-    ghost use Rattle.bd_holds.specs.Carried.{carried_in};
+    ghost use Rattle.bd_records.specs.Carried.{carried_in};
     ghost use Rattle.bd_objects.specs.{Stands.{StandsFor}, Room.{UsesNothing}};
 
     /// The objects that the buffer made there carries, one for each object of its parcel, in their order.
     pub fn carried(&self, made: u64) -> CarriedObjects<'_>
         ensures { Tells (StandsFor self.now) result (λ s. carried_in s.references made) }
     {
-        self.references.carried(made)
+        self.records.carried(made)
     }
 
     /// The references go that a buffer held.
@@ -27,7 +27,7 @@ impl ObjectTable {
         ensures stands { Makes (StandsFor self.old) (StandsFor self.new) (λ s. freeing.without_buffer s made) }
         ensures uses { UsesNothing self.old self.new }
     {
-        self.references.remove_buffer(made);
+        self.records.remove_buffer(made);
     }
 
     /// The objects to which a buffer refers, put after what is there. Fails for want of memory alone.
@@ -36,6 +36,6 @@ impl ObjectTable {
             (λ s. touched.old.items
             ++ map (λ r. r.object) (filter (λ r. refer.is_of_buffer made r.holder) s.references))) }
     {
-        self.references.referred(made, touched)
+        self.records.referred(made, touched)
     }
 }

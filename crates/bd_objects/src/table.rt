@@ -1,17 +1,20 @@
 //! The table, and its memory.
 
 ghost use Rattle.std.specs.Prelude.{◌≡◌, ◌≤◌, true, OnOk, OnErr};
-ghost use Rattle.bd_nodes.specs.Room.{node_room};
-ghost use Rattle.bd_holds.specs.Room.{reference_room};
-ghost use Rattle.bd_handles.specs.Stands.{name_room};
+ghost use Rattle.bd_records.specs.{Records.{new_room, reference_room}, Since.{given_room}};
 ghost use Rattle.bd_deaths.specs.Room.{death_room};
 
 use crate::room::Room;
 use bd_deaths::DeathTable;
-use bd_handles::NameTable;
-use bd_holds::ReferenceTable;
-use bd_nodes::NodeTable;
+use bd_records::{Near, Records};
 use std::alloc::{AllocError, Global};
+
+/// No guess where records are.
+pub(crate) const ANYWHERE: Near = Near {
+    object: 0,
+    number: 0,
+    process: 0,
+};
 
 // Room is made for so many of each at once, so that most steps find it there.
 const AHEAD: usize = 32;
@@ -19,18 +22,16 @@ const AHEAD: usize = 32;
 /// The objects of a space, with the references to them, their names and the death notifications on them.
 #[derive(Drop)]
 pub struct ObjectTable {
-    pub(crate) nodes: NodeTable,
-    pub(crate) references: ReferenceTable,
-    pub(crate) names: NameTable,
+    pub(crate) records: Records,
     pub(crate) deaths: DeathTable,
-    // Each list but the names surely has room for so many more: what comes in lowers it, and only `reserve` raises it.
+    // All but the names surely have room for so many more: what comes in lowers it, and only `reserve` raises it.
     pub(crate) sure_room: usize,
     // The same of this process's names.
     pub(crate) sure_names: usize,
     pub(crate) named: u64,
-    ghost objects_fit: { sure_room ≤ node_room nodes },
-    ghost references_fit: { sure_room ≤ reference_room references },
-    ghost names_fit: { sure_names ≤ name_room names named },
+    ghost objects_fit: { sure_room ≤ new_room records },
+    ghost references_fit: { sure_room ≤ reference_room records },
+    ghost names_fit: { sure_names ≤ given_room records named },
     ghost deaths_fit: { sure_room ≤ death_room deaths },
 }
 
@@ -43,9 +44,7 @@ impl ObjectTable {
         ensures { StandsFor result opening }
     {
         ObjectTable {
-            nodes: NodeTable::new(alloc),
-            references: ReferenceTable::new(alloc),
-            names: NameTable::new(alloc),
+            records: Records::new(alloc),
             deaths: DeathTable::new(alloc),
             sure_room: 0,
             sure_names: 0,
@@ -69,8 +68,8 @@ impl ObjectTable {
         ensures grown { OnErr result (objects ≤ object_room self.old → references ≤ reference_room_of self.old
             → deaths ≤ death_room_of self.old → ⊥) }
     {
-        self.nodes.reserve(objects)?;
-        self.references.reserve(references)?;
+        self.records.reserve_objects(objects)?;
+        self.records.reserve(references)?;
         self.deaths.reserve(deaths)
     }
 
@@ -95,7 +94,7 @@ impl ObjectTable {
         ensures uses { UsesNothing self.old self.new }
         ensures sure { result ≡ true → names ≤ name_room_of self.new p }
     {
-        if names > AHEAD || self.names.reserve(p, AHEAD).is_err() {
+        if names > AHEAD || self.records.reserve_names(p, AHEAD, 0).is_err() {
             return false;
         }
         self.sure_names = AHEAD;
@@ -115,7 +114,7 @@ impl ObjectTable {
         if names == 0 || sure || self.reserve_names_ahead(p, names) {
             return Ok(());
         }
-        self.names.reserve(p, names)
+        self.records.reserve_names(p, names, 0)
     }
 
     // Makes this room but for the names.

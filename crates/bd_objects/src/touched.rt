@@ -9,7 +9,7 @@ ghost use Rattle.bd_ways.specs.Local as local;
 ghost use Rattle.bd_objects.specs.{Deaths.{is_lost, only_lost}, Telling.{owner_due}};
 
 use crate::notices::{owner_to_tell, stays};
-use crate::table::ObjectTable;
+use crate::table::{ANYWHERE, ObjectTable};
 use bd_processes::ProcessTable;
 use bd_space::{Identity, WorkKind};
 
@@ -24,7 +24,7 @@ impl ObjectTable {
         ensures uses { UsesNothing self.old self.new }
     {
         if !self.is_named(p, o) {
-            self.names.remove(p, o);
+            self.records.remove_name(p, o, ANYWHERE);
         }
     }
 
@@ -37,11 +37,11 @@ impl ObjectTable {
             (λ s. owner_due s (object_in (local.objects_go_of (local.at_object o) s).objects o)) }
         ensures uses { UsesNothing self.old self.new }
     {
-        let x = self.nodes.object(o)?;
+        let x = self.records.object(o, 0)?;
         let lives = processes.lives(x.owner);
-        let hold = self.references.hold(x.id);
+        let hold = self.records.hold(x.id, 0);
         if !stays(hold, lives, &x) {
-            self.nodes.remove(o);
+            self.records.remove_object(o, 0);
             return None;
         }
         owner_to_tell(hold, lives, &x)
@@ -55,7 +55,7 @@ impl ObjectTable {
         if !self.deaths.has_on(p, o) {
             return false;
         }
-        !self.names.has(p, o) && self.deaths.has_uncleared(p, o)
+        !self.has_name(p, o) && self.deaths.has_uncleared(p, o)
     }
 
     /// The notification that goes with the process's name of the object, which is gone, where just one does: no other
@@ -69,7 +69,7 @@ impl ObjectTable {
             || notices.still_due s.processes s.objects s.references
             (local.deaths_go_of (local.at_name p o) s).deaths kind)) }
     {
-        if self.names.has(p, o) {
+        if self.has_name(p, o) {
             return None;
         }
         let x = self.deaths.only_uncleared(p, o)?;
@@ -87,7 +87,8 @@ impl ObjectTable {
         ensures stands { Makes (StandsFor self.old) (StandsFor self.new) (local.deaths_go_of (local.at_name p o)) }
         ensures uses { UsesNothing self.old self.new }
     {
-        self.deaths.remove_unnamed(self.names.has(p, o), p, o);
+        let named = self.has_name(p, o);
+        self.deaths.remove_unnamed(named, p, o);
     }
 
     /// Whether a work item of this kind stays: a death's item goes with its notification, if that is on the process's
@@ -101,7 +102,7 @@ impl ObjectTable {
     {
         match *kind {
             WorkKind::Death(n) => {
-                !self.deaths.is_on(p, o, n) || self.deaths.stays(self.names.has(p, o), p, o, n)
+                !self.deaths.is_on(p, o, n) || self.deaths.stays(self.has_name(p, o), p, o, n)
             }
             _ => true,
         }
@@ -112,7 +113,7 @@ impl ObjectTable {
         ensures { TellsWhere (StandsFor self.now) (HasProcesses processes.now) result
             (λ s. owner_due s (object_in s.objects o)) }
     {
-        let x = self.nodes.object(o)?;
-        owner_to_tell(self.references.hold(x.id), processes.lives(x.owner), &x)
+        let x = self.records.object(o, 0)?;
+        owner_to_tell(self.records.hold(x.id, 0), processes.lives(x.owner), &x)
     }
 }

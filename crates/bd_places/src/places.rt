@@ -1,6 +1,6 @@
 //! A vector of values, some of whose places are free.
 
-ghost use Rattle.std.specs.Prelude.{ℕ, ◌≡◌, ◌==◌, ◌≤◌, ◌<◌, ◌+◌, true, Some, None, is_some, count_by, vec_len, IfSome, IfNone, if◌then◌else◌, OnOk, OnErr};
+ghost use Rattle.std.specs.Prelude.{option_copied, ℕ, ◌≡◌, ◌==◌, ◌≤◌, ◌<◌, ◌+◌, true, Some, None, is_some, count_by, vec_len, IfSome, IfNone, if◌then◌else◌, OnOk, OnErr};
 ghost use Rattle.std.specs.BinaryHeap.{IsHeap, heap_items, heap_len, heap_capacity};
 ghost use Rattle.std.specs.Ordering.{nat_cmp};
 ghost use Rattle.std.proofs.Props.{props};
@@ -78,6 +78,17 @@ impl<T: Copy> Places<T> {
     {
         match self.rows.get(i) {
             Some(x) => *x,
+            None => None,
+        }
+    }
+
+    /// What stands at a place, where it stands.
+    #[inline(always)]
+    pub fn look(&self, i: usize) -> Option<&T>
+        ensures { option_copied result ≡ at self.now i }
+    {
+        match self.rows.get(i) {
+            Some(x) => x.as_ref(),
             None => None,
         }
     }

@@ -6,8 +6,12 @@ use Rattle.bd_ways.specs.Words.{Identity, Object, Reference, Name, same}
 use Rattle.bd_space.proofs.Identities.{same_self}
 use Rattle.bd_space.specs.References.{owned_in, is_asking}
 use Rattle.bd_space.specs.Names.{named_in, number_in}
-use Rattle.bd_handles.specs.{Numbers.{new_number, with_number}, Sound.{Sound, has_object}}
-use Rattle.bd_handles.proofs.{Naming.{came_number}, Freeing.{free_unnamed}, Singles.{last_dropped}, Given.{nil_of}}
+use Rattle.bd_records.specs.Numbers.{new_number, with_number}
+use Rattle.bd_records.specs.Sound.{Sound, has_object}
+use Rattle.bd_records.proofs.NamesFound.{came_number}
+use Rattle.bd_records.proofs.Freeing.{free_unnamed}
+use Rattle.bd_records.proofs.Singles.{last_dropped}
+use Rattle.bd_records.proofs.GivenNames.{nil_of}
 use Rattle.bd_records.specs.declared.{records.Records.{Records}, names.Names.{Names}, row.ObjectRow.{ObjectRow}, row.NameRow.{NameRow}}
 use Rattle.bd_records.specs.{Count.{no_count, of_strength}, Counting.{asked_of, carried_of, is_carrying}, NameRows.{new_row}, Names.{name_at, number_of}, NamesAre.{NamesAre}, Counted.{CountsAre}, Since.{IsBlank, AreBlank, Since, Settled, KeepsSettled}, Room.{Uses}}
 

@@ -17,3 +17,14 @@ mod Ending
 mod Stepping
 mod AskedFor
 mod Dropping
+mod Changes
+pub mod Distinct
+mod Found
+mod Maps
+mod FreeNumbers
+pub mod Freeing
+mod Limits
+mod NamesFound
+mod Singles
+mod Turned
+mod GivenNames

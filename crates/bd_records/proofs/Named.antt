@@ -12,9 +12,12 @@ use Rattle.bd_chains.specs.Chain.{is_at}
 use Rattle.bd_keys.specs.Tables.{Makes}
 use Rattle.std.specs.Prelude.{option_map}
 use Rattle.bd_records.specs.NameRows.{object_of}
-use Rattle.bd_handles.specs.{Numbers.{new_number, with_number, IsFull, IsNextNumber}, Sound.{has_number, has_object}}
-use Rattle.bd_handles.proofs.{Limits.{fits_push, fits_filter, past_unnamed}, FreeNumbers.{free_first, free_past}, Freeing.{used_named, free_unnamed}}
-use Rattle.bd_handles.proofs.Naming.{came_sound, came_object, came_number, gone_sound, gone_object, gone_number, none_gone}
+use Rattle.bd_records.specs.Numbers.{new_number, with_number, IsFull, IsNextNumber}
+use Rattle.bd_records.specs.Sound.{has_number, has_object}
+use Rattle.bd_records.proofs.Limits.{fits_push, fits_filter, past_unnamed}
+use Rattle.bd_records.proofs.FreeNumbers.{free_first, free_past}
+use Rattle.bd_records.proofs.Freeing.{used_named, free_unnamed}
+use Rattle.bd_records.proofs.NamesFound.{came_sound, came_object, came_number, gone_sound, gone_object, gone_number, none_gone}
 
 abbrev name : ℕ → ℕ → Identity → Name
 name p n o = record { process = p; number = n; object = o }

@@ -11,10 +11,12 @@ use Rattle.bd_keys.specs.Keys.{same_word}
 use Rattle.bd_keys.specs.Look.{look}
 use Rattle.bd_chains.specs.{declared.links.Held.{Held}, Chain.{distinct, has}, Rows.{Row, keys, values, row_at, drop_key}}
 use Rattle.bd_chains.proofs.Rowing.{at_more, at_less, drop_none}
-use Rattle.bd_nodes.specs.Keys.{id_key, own_key}
-use Rattle.bd_nodes.specs.Stands.{AreDistinct}
+use Rattle.bd_records.specs.ObjectKeys.{id_key, own_key}
+use Rattle.bd_records.specs.Maps.{AreDistinct}
 use Rattle.bd_keys.proofs.Keys.{word_eq, word_self}
-use Rattle.bd_nodes.proofs.{Distinct.{cons_none, none_cons, away_none}, Found.{found_own}, Changes.{by_own}}
+use Rattle.bd_records.proofs.Distinct.{cons_none, none_cons, away_none}
+use Rattle.bd_records.proofs.Found.{found_own}
+use Rattle.bd_records.proofs.Changes.{by_own}
 use Rattle.bd_records.specs.declared.{owned.Owned.{Owned}, owned.Spot.{Spot}, owned.Possession.{Possession}}
 use Rattle.bd_records.specs.Owned.{possession, stands_at, id_at, OwnedAre}
 

@@ -10,9 +10,9 @@ use Rattle.bd_records.specs.Counting.{told, total_of, owed_of, managed_of}
 use Rattle.bd_records.specs.{Counted.{CountsAre}, Records.{is_owner}}
 use Rattle.bd_keys.specs.Keys.{same_word}
 use Rattle.bd_keys.proofs.Keys.{word_eq, word_self}
-use Rattle.bd_nodes.specs.Keys.{id_key, own_key}
-use Rattle.bd_nodes.proofs.Distinct.{changed_distinct}
-use Rattle.bd_nodes.proofs.Maps.{finds_hidden}
+use Rattle.bd_records.specs.ObjectKeys.{id_key, own_key}
+use Rattle.bd_records.proofs.Distinct.{changed_distinct}
+use Rattle.bd_records.proofs.Maps.{finds_hidden}
 use Rattle.bd_records.specs.{declared.owned.Owned.{Owned}, Owned.{OwnedAre, possession, id_at}}
 use Rattle.bd_records.proofs.Coming.{object_of, both_same}
 

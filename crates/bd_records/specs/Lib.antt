@@ -15,3 +15,9 @@ pub mod Room
 pub mod Carried
 pub mod Ending
 pub mod Asks
+pub mod New
+pub mod Maps
+pub mod ObjectKeys
+pub mod NumberKeys
+pub mod Numbers
+pub mod Sound

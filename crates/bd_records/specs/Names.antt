@@ -6,7 +6,7 @@ use Rattle.bd_numbered.specs.Numbered.{value_at, number_room}
 use Rattle.bd_records.specs.declared.row.NameRow.{NameRow}
 use Rattle.bd_records.specs.declared.names.Names.{Names}
 use Rattle.bd_records.specs.Slots.{on_slot}
-use Rattle.bd_handles.specs.Keys.{number_at}
+use Rattle.bd_records.specs.NumberKeys.{number_at}
 use Rattle.bd_records.specs.NameRows.{object_in}
 
 -- by object: the number; by number: the object

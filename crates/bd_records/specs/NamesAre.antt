@@ -2,7 +2,7 @@
 use Rattle.std.specs.Prelude.{ℕ, ◌≡◌, false, List}
 use Rattle.bd_ways.specs.Words.{Identity, Name}
 use Rattle.bd_space.specs.Names.{named_in, number_in, has_number_past_limit}
-use Rattle.bd_handles.specs.Sound.{Sound}
+use Rattle.bd_records.specs.Sound.{Sound}
 use Rattle.bd_records.specs.{declared.names.Names.{Names}, Names.{named_by, number_of}}
 
 pub record NamesAre (t : Names) (l : List Name) : Type 0 where

@@ -7,8 +7,8 @@ use Rattle.bd_keys.specs.Keys.{same_word}
 use Rattle.bd_keys.specs.Look.{look, word_room}
 use Rattle.bd_chains.specs.{declared.links.Held.{Held}, Rows.{Row, values, row_at}}
 use Rattle.bd_chains.specs.Lists as lists
-use Rattle.bd_nodes.specs.Keys.{id_key, own_key}
-use Rattle.bd_nodes.specs.Stands.{AreDistinct, Finds}
+use Rattle.bd_records.specs.ObjectKeys.{id_key, own_key}
+use Rattle.bd_records.specs.Maps.{AreDistinct, Finds}
 use Rattle.bd_records.specs.declared.{owned.Owned.{Owned}, owned.Spot.{Spot}, owned.Possession.{Possession}}
 
 abbrev pub possession : Object → Possession

@@ -1,6 +1,7 @@
 //! Buffers' references.
 
-ghost use Rattle.std.specs.Prelude.{ℕ, ◌≡◌, ◌==◌, ◌≤◌, ◌+◌, ◌++◌, ◌∷◌, [], Some, None, List, option_map, find, filter, map, length, OnOk, OnErr};
+ghost use Rattle.std.specs.Prelude.{ℕ, ◌≡◌, ◌==◌, ◌≤◌, ◌+◌, ◌++◌, ◌∷◌, [], false, Some, None, List, option_map, find, filter, map, length, OnOk, OnErr};
+ghost use Rattle.std.specs.List.{list_any};
 ghost use Rattle.bd_keys.specs.Tables.{Makes, Tells};
 ghost use Rattle.bd_space.specs.Words.{without_first};
 ghost use Rattle.bd_space.specs.References as refer;
@@ -42,7 +43,7 @@ fn berth_of(holder: Holder) -> Option<Berth>
 }
 
 impl Buffers {
-    ghost use Rattle.bd_records.specs.Buffers.{BuffersAre, buffer_room, is_held};
+    ghost use Rattle.bd_records.specs.Buffers.{BuffersAre, buffer_room, is_held, list_of, window_list};
 
     /// Nothing is held.
     pub fn new(alloc: Global) -> Buffers
@@ -159,6 +160,8 @@ impl Buffers {
     /// Gives the buffer's list back, if nothing is on it.
     pub fn close(&mut self, b: u64)
         ensures stands { Makes (BuffersAre self.old) (BuffersAre self.new) (λ l. l) }
+        ensures gone { (l : List declared.Reference) → BuffersAre self.old l → list_any (λ r. refer.is_of_buffer b r.holder) l ≡ false
+            → list_of self.new b ≡ None }
         ensures uses { buffer_room self.old ≤ buffer_room self.new }
     {
         self.lists.give_back(b);
@@ -167,6 +170,8 @@ impl Buffers {
     /// Gives back the list of the buffer in which this holder lay, if nothing is on it.
     pub fn close_of(&mut self, holder: Holder)
         ensures stands { Makes (BuffersAre self.old) (BuffersAre self.new) (λ l. l) }
+        ensures gone { (b : ℕ) (l : List declared.Reference) → refer.buffer_of_holder holder ≡ Some b → BuffersAre self.old l
+            → list_any (λ r. refer.is_of_buffer b r.holder) l ≡ false → list_of self.new b ≡ None }
         ensures uses { buffer_room self.old ≤ buffer_room self.new }
     {
         if let Some(berth) = berth_of(holder) {
@@ -177,6 +182,8 @@ impl Buffers {
     /// Gives the list of the process's window back, if nothing is on it.
     pub fn close_window(&mut self, p: u64)
         ensures stands { Makes (BuffersAre self.old) (BuffersAre self.new) (λ l. l) }
+        ensures gone { (l : List declared.Reference) → BuffersAre self.old l → list_any (λ r. refer.is_in_window p r.holder) l ≡ false
+            → window_list self.new p ≡ None }
         ensures uses { buffer_room self.old ≤ buffer_room self.new }
     {
         self.windows.give_back(p);

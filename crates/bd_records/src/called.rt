@@ -8,12 +8,13 @@ ghost use Rattle.bd_space.specs.declared.space.{Object.{Object}, Reference.{Refe
 ghost use Rattle.bd_space.specs.declared.space.Name as declared;
 ghost use Rattle.bd_space.specs.References as refer;
 ghost use Rattle.bd_space.specs.Names as names_of;
-ghost use Rattle.bd_handles.specs.{Numbers.{with_number, IsFull}, Sound.{has_object}};
+ghost use Rattle.bd_records.specs.Numbers.{with_number, IsFull};
+ghost use Rattle.bd_records.specs.Sound.{has_object};
 
 use crate::listed::{give_name, remove_name};
+use crate::numbers::NumbersFull;
 use crate::records::Records;
 use crate::turning::Near;
-use bd_handles::NumbersFull;
 use bd_space::{Identity, Name};
 use std::alloc::AllocError;
 

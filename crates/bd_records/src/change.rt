@@ -13,7 +13,7 @@ use bd_space::Identity;
 use std::alloc::AllocError;
 
 impl Records {
-    ghost use Rattle.bd_nodes.specs.New.{IsNewIn, AreNewIn};
+    ghost use Rattle.bd_records.specs.New.{IsNewIn, AreNewIn};
     ghost use Rattle.bd_records.specs.{Records.{RecordsAre, Makes, new_room, reference_room}, Room.{Uses}, Since.{KeepsSettled}};
 
     /// Makes room for so many objects more. Changes nothing else.

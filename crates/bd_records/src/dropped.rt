@@ -72,7 +72,7 @@ fn push_asked(names: &Names, p: u64, touched: &mut Vec<Identity>) -> Result<(), 
 }
 
 impl Records {
-    ghost use Rattle.bd_nodes.specs.New.{HasAll};
+    ghost use Rattle.bd_records.specs.New.{HasAll};
     ghost use Rattle.bd_records.specs.Records.{RecordsAre};
 
     /// Puts the objects of the references that the process asked for, or that lie in its window, to what is there, in

@@ -1,6 +1,6 @@
 //! What goes when a process ends.
 
-ghost use Rattle.std.specs.Prelude.{ℕ, ◌≡◌, ◌≤◌, ◌&&◌, ◌||◌, ◌++◌, true, Option, option_map, not, map, find, filter, List, OnOk, OnErr};
+ghost use Rattle.std.specs.Prelude.{ℕ, ◌≡◌, ◌≤◌, ◌&&◌, ◌||◌, ◌++◌, true, false, Some, None, Option, option_map, not, map, find, filter, List, OnOk, OnErr};
 ghost use Rattle.std.specs.List.{list_any};
 ghost use Rattle.bd_space.specs.Words.{without_first};
 ghost use Rattle.bd_space.specs.References as refer;
@@ -30,7 +30,7 @@ fn remove_of_each(objects: &mut Objects, owned: OwnedObjects<'_>)
 }
 
 impl Records {
-    ghost use Rattle.bd_records.specs.{Records.{RecordsAre, Makes, Tells}, NamesAre.{KeepsNames}, Names.{named_by}, Room.{Uses}, Since.{KeepsSettled}};
+    ghost use Rattle.bd_records.specs.{Records.{RecordsAre, Makes, Tells}, NamesAre.{KeepsNames}, Names.{named_by}, Room.{Uses}, Since.{KeepsSettled}, Buffers.{list_of, window_list}};
 
     /// The references go that the process has as owner of its objects: what it is to acknowledge, and the context manager's.
     pub fn remove_of_owned(&mut self, p: u64)
@@ -49,6 +49,10 @@ impl Records {
         ensures names { KeepsNames self.old.names self.new.names }
         ensures settled { KeepsSettled self.old self.new }
         ensures uses { Uses self.old self.new 0 0 0 }
+        ensures gone { (objects : List Object) (l : List Reference) (r : Reference) (b : ℕ) → RecordsAre self.old objects l
+            → find (λ x. refer.is_in_window p x.holder) l ≡ Some r → refer.buffer_of_holder r.holder ≡ Some b
+            → list_any (λ x. refer.is_of_buffer b x.holder) (without_first (λ x. refer.is_in_window p x.holder) l) ≡ false
+            → list_of self.new.held b ≡ None }
     {
         let near = Near {
             object: 0,
@@ -120,6 +124,7 @@ impl Records {
             (λ l. filter (λ r. not (refer.is_asked_by p r.holder || refer.is_in_window p r.holder)) l) }
         ensures settled { KeepsSettled self.old self.new }
         ensures uses { Uses self.old self.new 0 0 0 }
+        ensures gone { (objects : List Object) (l : List Reference) → RecordsAre self.old objects l → window_list self.new.held p ≡ None }
     {
         self.drop_each_asked(p);
         self.remove_each_in_window(p);

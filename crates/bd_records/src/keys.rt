@@ -3,12 +3,12 @@
 ghost use Rattle.std.specs.Prelude.{ℕ, ◌≡◌, ◌==◌, ◌≤◌, ◌<◌, ◌+◌, ◌^◌, false, None, Some, is_some, IfNone, IfSome, OnOk, OnErr};
 ghost use Rattle.std.specs.HashMap.{spare};
 ghost use Rattle.bd_space.specs.declared.step.Identity as declared;
-ghost use Rattle.bd_handles.specs.Keys.{number_at};
+ghost use Rattle.bd_records.specs.NumberKeys.{number_at};
 ghost use Rattle.bd_numbered.specs.Numbered.{value_at};
 ghost use Rattle.bd_records.specs.NameRows.{object_in};
 
+use crate::number_key::{ObjectKey, remove_number};
 use crate::row::NameRow;
-use bd_handles::{ObjectKey, remove_number};
 use bd_numbered::Numbered;
 use std::alloc::AllocError;
 use std::collections::HashMap;

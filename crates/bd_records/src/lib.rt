@@ -15,6 +15,8 @@ mod listing;
 mod look;
 mod lying;
 mod names;
+mod number_key;
+mod numbers;
 mod objects;
 mod owned;
 mod records;
@@ -28,6 +30,7 @@ pub use listed::{give_name, name_number, named_object, new_names, next_number, r
 pub use listing::OwnedObjects;
 pub use lying::Lying;
 pub use names::Names;
+pub use numbers::NumbersFull;
 pub use objects::Objects;
 pub use owned::Owned;
 pub use records::{Hold, Records};

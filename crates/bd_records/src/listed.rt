@@ -7,12 +7,12 @@ ghost use Rattle.bd_space.specs.Names as names_of;
 ghost use Rattle.bd_space.specs.Words.{same};
 ghost use Rattle.bd_space.specs.declared.step.Identity as object;
 ghost use Rattle.bd_records.specs.NameRows.{new_row};
-ghost use Rattle.bd_handles.specs.Sound.{has_object};
+ghost use Rattle.bd_records.specs.Sound.{has_object};
 ghost use Rattle.bd_records.specs.{Names.{name_room, number_of, name_at}, NamesAre.{NamesAre}};
-ghost use Rattle.bd_handles.specs.Numbers.{with_number, IsFull, IsNextNumber};
+ghost use Rattle.bd_records.specs.Numbers.{with_number, IsFull, IsNextNumber};
 
 use crate::names::Names;
-use bd_handles::NumbersFull;
+use crate::numbers::NumbersFull;
 use bd_space::Identity;
 use std::alloc::Global;
 

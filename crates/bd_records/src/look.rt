@@ -4,7 +4,7 @@ ghost use Rattle.std.specs.Prelude.{◌≡◌, ◌==◌, ◌&&◌, option_map, f
 ghost use Rattle.bd_space.specs.Words.{same};
 ghost use Rattle.bd_space.specs.References as refer;
 ghost use Rattle.bd_space.specs.declared.space.{Object.{Object}, Reference.{Reference}};
-ghost use Rattle.bd_nodes.specs.Keys as keys;
+ghost use Rattle.bd_records.specs.ObjectKeys as keys;
 
 use crate::listing::OwnedObjects;
 use crate::records::Records;

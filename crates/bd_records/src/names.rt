@@ -3,19 +3,28 @@
 ghost use Rattle.std.specs.Prelude.{ℕ, ◌≡◌, ◌==◌, ◌≤◌, ◌<◌, ◌+◌, ◌&&◌, true, false, Some, None, is_some, option_map, ◌^◌, IfOk, IfSome, IfNone, OnOk, OnErr, if◌then◌else◌};
 ghost use Rattle.bd_space.specs.Words.{same};
 ghost use Rattle.bd_space.specs.declared.step.Identity as declared;
-ghost use Rattle.bd_handles.specs.Keys.{number_at};
+ghost use Rattle.bd_records.specs.NumberKeys.{number_at};
 ghost use Rattle.bd_records.specs.NameRows.{object_in, new_row};
 ghost use Rattle.bd_records.specs.Counting as spec;
 
 use crate::count::Count;
 use crate::counting::name_turned;
 use crate::keys::{remove_numbers, reserve_numbers};
+use crate::number_key::{ObjectKey, insert_number, number_of, remove_number};
+use crate::numbers::NumbersFull;
 use crate::row::NameRow;
-use bd_handles::{NumbersFull, ObjectKey, insert_number, number_of, remove_number};
-use bd_numbered::Numbered;
+use bd_numbered::{Guesses, Numbered};
 use bd_space::{Identity, Reference};
 use std::alloc::{AllocError, Global};
 use std::collections::HashMap;
+
+// By which a name is guessed.
+#[inline(always)]
+fn key_of(p: u64, o: Identity) -> u64 {
+    p.wrapping_mul(31)
+        .wrapping_add(o.place)
+        .wrapping_add(o.index as u64)
+}
 
 /// The names of all processes.
 #[derive(Drop)]
@@ -23,6 +32,7 @@ pub struct Names {
     pub(crate) rows: Numbered<NameRow>,
     // Numbers by process and object, asked where a guess was wrong.
     pub(crate) numbers: HashMap<ObjectKey, u32>,
+    pub(crate) guesses: Guesses,
     ghost found: { (p : ℕ) (o : declared.Identity) (n : ℕ) → object_in rows p n ≡ Some o → number_at numbers p o ≡ Some n },
     ghost leads: { (p : ℕ) (o : declared.Identity) (n : ℕ) → number_at numbers p o ≡ Some n → object_in rows p n ≡ Some o },
     ghost small: { (p : ℕ) (o : declared.Identity) (n : ℕ) → number_at numbers p o ≡ Some n → n ≤ 4294967294 },
@@ -42,6 +52,7 @@ impl Names {
         Names {
             rows: Numbered::new(alloc),
             numbers: HashMap::new(alloc),
+            guesses: Guesses::new(),
         }
     }
 
@@ -64,7 +75,7 @@ impl Names {
     pub fn named(&self, p: u64, n: u32, near: usize) -> Option<Identity>
         ensures { result ≡ named_by self.now p n }
     {
-        match self.rows.get(p, n, near) {
+        match self.rows.look(p, n, near) {
             Some(row) => Some(row.object),
             None => None,
         }
@@ -77,6 +88,10 @@ impl Names {
     {
         if self.named(p, n, near) == Some(o) {
             return Some(n);
+        }
+        let guess = self.guesses.of(key_of(p, o));
+        if self.named(p, guess, near) == Some(o) {
+            return Some(guess);
         }
         number_of(&self.numbers, p, o)
     }
@@ -189,6 +204,7 @@ impl Names {
         };
         let _n = self.rows.put(p, n == 0, row, near);
         insert_number(&mut self.numbers, p, o, n);
+        self.guesses.note(key_of(p, o), n as usize);
         Ok(n)
     }
 

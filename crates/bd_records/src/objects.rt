@@ -13,17 +13,25 @@ use crate::slots::{
     id_at, insert_row, insert_slot, remove_of_owner_in, remove_row, remove_slot, reserve_rows,
     reserve_slots, row_in, set_row, slot_of, subtract_row, tell_row, turn_row,
 };
+use bd_numbered::Guesses;
 use bd_space::{Identity, Reference};
 use slab::Slab;
 use std::alloc::{AllocError, Global};
 use std::collections::HashMap;
 
+// By which an object is guessed.
+#[inline(always)]
+fn key_of(o: Identity) -> u64 {
+    o.place.wrapping_add(o.index as u64)
+}
+
 /// The records of all objects.
 #[derive(Drop)]
 pub struct Objects {
     pub(crate) rows: Slab<ObjectRow>,
-    // Slots by identity, asked where a guess was wrong.
+    // Slots by identity, asked where all guesses were wrong.
     pub(crate) slots: HashMap<Identity, usize>,
+    pub(crate) guesses: Guesses,
     ghost found: { (o : declared.Identity) (k : ℕ) → id_in rows k ≡ Some o → get_by (same o) slots ≡ Some k },
     ghost leads: { (o : declared.Identity) (k : ℕ) → get_by (same o) slots ≡ Some k → id_in rows k ≡ Some o },
 }
@@ -38,6 +46,7 @@ impl Objects {
         Objects {
             rows: Slab::new(alloc),
             slots: HashMap::new(alloc),
+            guesses: Guesses::new(),
         }
     }
 
@@ -60,6 +69,10 @@ impl Objects {
     {
         if id_at(&self.rows, near) == Some(o) {
             return Some(near);
+        }
+        let guess = self.guesses.of(key_of(o)) as usize;
+        if id_at(&self.rows, guess) == Some(o) {
+            return Some(guess);
         }
         slot_of(&self.slots, o)
     }
@@ -138,6 +151,7 @@ impl Objects {
         ensures uses { object_room self.old ≤ object_room self.new + 1 }
     {
         let k = insert_row(&mut self.rows, row);
+        self.guesses.note(key_of(row.object.id), k);
         if let Some(before) = insert_slot(&mut self.slots, row.object.id, k) {
             remove_row(&mut self.rows, before);
         }

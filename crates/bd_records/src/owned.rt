@@ -4,8 +4,8 @@ ghost use Rattle.std.specs.Prelude.{◌≡◌, ◌==◌, ◌≤◌, ◌+◌, ◌
 ghost use Rattle.bd_keys.specs.Tables.{Makes, Tells};
 ghost use Rattle.bd_space.specs.{Words.{same}, References.{object_in, own_in}};
 ghost use Rattle.bd_space.specs.declared.space.Object as declared;
-ghost use Rattle.bd_nodes.specs.Keys as keys;
-ghost use Rattle.bd_nodes.specs.New.{IsNewIn};
+ghost use Rattle.bd_records.specs.ObjectKeys as keys;
+ghost use Rattle.bd_records.specs.New.{IsNewIn};
 
 use bd_chains::{Items, Lists, Numbering, Numbers};
 use bd_keys::{WordKey, WordMap};

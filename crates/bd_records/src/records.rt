@@ -55,7 +55,7 @@ pub(crate) fn push_objects(
 
 impl Records {
     ghost use Rattle.bd_records.specs.Records.{RecordsAre, IsHomed, Makes, Tells, TellsOfOthers, reference_room};
-    ghost use Rattle.bd_records.specs.{NamesAre.{KeepsNames}, Names.{named_by}, Since.{Settled, KeepsSettled}, Room.{Uses}};
+    ghost use Rattle.bd_records.specs.{Buffers.{list_of}, NamesAre.{KeepsNames}, Names.{named_by}, Since.{Settled, KeepsSettled}, Room.{Uses}};
 
     /// No objects, no references.
     pub fn new(alloc: Global) -> Records
@@ -276,6 +276,7 @@ impl Records {
         ensures names { KeepsNames self.old.names self.new.names }
         ensures settled { KeepsSettled self.old self.new }
         ensures uses { Uses self.old self.new 0 0 0 }
+        ensures gone { (objects : List Object) (l : List Reference) → RecordsAre self.old objects l → list_of self.new.held b ≡ None }
     {
         self.remove_each(b);
         self.held.close(b);

@@ -9,16 +9,17 @@ use Rattle.bd_step.specs.Stands.{Before, Within}
 use Rattle.bd_step.specs.Meets.{Meets, IsKept}
 use Rattle.bd_step.proofs.Standing.{within}
 
--- room was made, and then the change was made with what follows from it, which may rest on what the step asks of the space
+-- room was made, and then the change was made with what follows from it, which may rest on what is so of the space before and on
+-- what the step asks of it
 accepts : (old mid new : Tables) (P : Space → Type 0) (f : Space → Outcome) (g : Space → Space)
-    → IsKept old mid → ((s : Space) → Within mid s → P s → Within new (completed (g s))) → ((s : Space) → Before old s → P s → f s ≡ accepted (g s))
+    → IsKept old mid → ((s : Space) → Before old s → P s → Within mid s → Within new (completed (g s))) → ((s : Space) → Before old s → P s → f s ≡ accepted (g s))
     → Meets old new P f Accepted
 accepts old mid new P f g kept changed is = record {
   answered = λ s h p. sym (ap (λ (o : Outcome). o.answer) (is s h p));
-  stands = λ s h p. subst (λ (o : Outcome). Within new o.space) (sym (is s h p)) (changed s (within mid s (kept s h)) p);
+  stands = λ s h p. subst (λ (o : Outcome). Within new o.space) (sym (is s h p)) (changed s h p (within mid s (kept s h)));
 }
 
--- the same, where nothing follows from the change, which may rest on what is so of the space
+-- the same, where nothing follows from the change
 pub accepts_alone : (old mid new : Tables) (P : Space → Type 0) (f : Space → Outcome) (g : Space → Space)
     → IsKept old mid → ((s : Space) → Before old s → P s → Within mid s → Within new (g s)) → ((s : Space) → Before old s → P s → completed (g s) ≡ g s) → ((s : Space) → Before old s → P s → f s ≡ accepted (g s))
     → Meets old new P f Accepted
@@ -45,7 +46,7 @@ module _ {A : Type 0} (old : Tables) (P : Space → Type 0) (g : Space → A →
   checked_notes n is = notes old P checked n (λ s h p. sym (ap (by_check s (g s)) (is s h)))
 
   module _ (x : A) (is : (s : Space) → Before old s → Ok x ≡ check s) (mid new : Tables) (kept : IsKept old mid) where
-    pub checked_accepts : ((s : Space) → Within mid s → P s → Within new (completed (g s x))) → Meets old new P checked Accepted
+    pub checked_accepts : ((s : Space) → Before old s → P s → Within mid s → Within new (completed (g s x))) → Meets old new P checked Accepted
     checked_accepts changed = accepts old mid new P checked (λ s. g s x) kept changed (λ s h p. sym (ap (by_check s (g s)) (is s h)))
 
     pub checked_accepts_alone : ((s : Space) → Before old s → P s → Within mid s → Within new (g s x)) → ((s : Space) → Before old s → P s → completed (g s x) ≡ g s x)

@@ -25,9 +25,9 @@ use Rattle.bd_laws.proofs.Pings.{transaction_delivers}
 use Rattle.bd_laws.proofs.Sending.{one_way_local, two_way_local}
 use Rattle.bd_laws.proofs.Replying.{reply_local}
 use Rattle.bd_step.specs.Meets.{IsSending, IsServing, IsReplying}
-use Rattle.bd_step.specs.Deliveries.{SendsNew, CanCall}
+use Rattle.bd_step.specs.Deliveries.{CanSend, CanCall}
 use Rattle.bd_step.specs.Freed.{ripen_next}
-use Rattle.bd_step.proofs.New.{sending_new}
+use Rattle.bd_step.proofs.New.{can_send}
 use Rattle.bd_step.proofs.Finding.{found_lives}
 use Rattle.bd_step.proofs.Stacked.{tidy_takes}
 
@@ -43,7 +43,7 @@ module _ (s : Space) (a : Actor) (d : TransactionData) (v : Delivery) (p : IsSen
   sent_call =
       let t = transaction_checked s a d p.checked.0 v p.checked.1 in
       record {
-        new = sending_new s a.process.made p.tidy d p.checked.0 v.sending t.sends;
+        sends = can_send s a.process.made p.tidy d p.checked.0 v t.sends (λ o e. let is : t.object ≡ o = (let k = t.target in cc) in (t.owned.object, t.owned.here, t.owned.id ∙ is));
         lives = found_lives s.processes t.owned.object.owner v.receiver t.owned.lives;
         takes = tidy_takes s p.tidy;
       }
@@ -71,8 +71,10 @@ pub served_there : (s : Space) (seat : ℕ) (f : Frame) → IsServing seat f s �
 served_there s seat f p = (replied_childless s seat f p.tidy p.serves).0
 
 module _ (s : Space) (a : Actor) (d : TransactionData) (f : Frame) (v : Delivery) (p : IsReplying a d f v s) where
-  pub replied_new : SendsNew v s
-  replied_new = sending_new s a.process.made p.serving.tidy d p.checked.0 v.sending (reply_checked s a d p.checked.0 f v p.checked.1).sends
+  pub replied_sends : CanSend v s
+  replied_sends =
+      let t = reply_checked s a d p.checked.0 f v p.checked.1 in
+      can_send s a.process.made p.serving.tidy d p.checked.0 v t.sends (λ o e. let none = t.target in absurd (cc))
 
   pub replied_ordered : Pairs Earlier (replied s a d f v).objects
   replied_ordered = (replied_kept s a d p.checked.0 f v p.serving.tidy.before.objects p.checked.1).in_order

@@ -7,7 +7,7 @@ use Rattle.bd_uapi.specs.declared.command.TransactionData.{TransactionData}
 use Rattle.bd_space.specs.declared.space.Buffer.{Buffer}
 use Rattle.bd_space.specs.declared.space.Actor.{Actor}
 use Rattle.bd_space.specs.Windows.{needed}
-use Rattle.bd_step.specs.Deliveries.{OnlyWorks, IsInside, IsCopy}
+use Rattle.bd_step.specs.Deliveries.{OnlyWorks, IsInside, IsCopy, CanSend}
 use Rattle.std.proofs.lemmas.List.Sums.{fold_more}
 use Rattle.bd_uapi.specs.declared.object.FlatObject.{FlatObject}
 use Rattle.bd_uapi.specs.Records.{object_bytes}
@@ -25,6 +25,7 @@ use Rattle.bd_space.specs.Todo.{is_notice}
 use Rattle.bd_space.specs.Delivery.{Delivery, make_objects, refer, with_carried, withdraw_notice, buffer_of, add_buffer, own_notices}
 use Rattle.bd_objects.specs.declared.table.ObjectTable.{ObjectTable}
 use Rattle.bd_objects.specs.Stands as objects
+use Rattle.bd_objects.specs.New.{IsDelivered}
 use Rattle.bd_step.specs.declared.tables.Tables.{Tables}
 use Rattle.bd_step.specs.Stands.{StandsAt, Before}
 use Rattle.bd_step.proofs.Changing.{with_objects}
@@ -70,6 +71,14 @@ unfolding with_carried
 known_is s v q made items target a b c e =
     ap (λ (x : ℕ). delivered s x made items target) a ∙ ap (λ (x : List Object). delivered s v.receiver.made x items target) b
     ∙ ap (λ (x : List Item). delivered s v.receiver.made v.sending.made x target) c ∙ ap (delivered s v.receiver.made v.sending.made v.sending.items) e
+
+pub known_delivers : (s : Space) (v : Delivery) (place : ℕ) (managed : Option Identity) (made : List Object) (items : List Item) (target : Option Identity)
+    → made ≡ v.sending.made → items ≡ v.sending.items → target ≡ v.target → s.steps ≡ place → s.manager ≡ managed → CanSend v s → IsDelivered place managed made items target s
+known_delivers s v place managed made items target m i t at manages sends =
+    let all : IsDelivered place managed v.sending.made v.sending.items v.target s = record { makes = record { at = at; manages = manages; new = sends.new }; carried = sends.carried; aimed = sends.aimed } in
+    subst (λ os. IsDelivered place managed os items target s) (sym m)
+    (subst (λ xs. IsDelivered place managed v.sending.made xs target s) (sym i)
+    (subst (λ o. IsDelivered place managed v.sending.made v.sending.items o s) (sym t) all))
 
 pub known_stands : (t : Tables) (os : ObjectTable) (s : Space) (v : Delivery) (q : ℕ) (made : List Object) (items : List Item) (target : Option Identity)
     → q ≡ v.receiver.made → made ≡ v.sending.made → items ≡ v.sending.items → target ≡ v.target

@@ -27,7 +27,7 @@ use Rattle.bd_laws.specs.Lists.{In}
 use Rattle.bd_laws.proofs.Lists.{filter_in, in_map, map_in, any_found, any_in}
 use Rattle.bd_laws.proofs.Tests.{both, same_eq, eq_same}
 use Rattle.bd_laws.proofs.Leaving.{or_left, or_right}
-use Rattle.bd_nodes.specs.New.{HasAll}
+use Rattle.bd_records.specs.New.{HasAll}
 use Rattle.bd_calls.specs.Closing.{is_place_among}
 use Rattle.bd_step.specs.declared.exit.Exit.{Exit}
 use Rattle.bd_step.specs.Exits.{HasObject, HasFrame, Grows, HasWork, HasList, HasThread, HasThreads, HasProcess}

@@ -1,4 +1,4 @@
--- What a step takes in is new, by what holds between two steps.
+-- What a step takes in is new, and what it refers to is there, by what holds between two steps.
 use Rattle.std.proofs.Common.{◌≡◌, ◌==◌, ◌||◌, ℕ, Bool, true, false, not, List, [], ◌∷◌, ◌++◌, inl, inr, append-nil, append_assoc, length, find, Option, Some, None, Ok, refl, ap, sym, subst, arith}
 use Rattle.std.specs.Option.{option_to_list, is_some}
 use Rattle.std.proofs.lemmas.Bool.{eqb-true}
@@ -18,17 +18,23 @@ use Rattle.bd_space.specs.References.{object_in, own_in}
 use Rattle.bd_space.specs.Names.{named}
 use Rattle.bd_space.specs.Deaths.{is_notification, uncleared_in, request_check}
 use Rattle.bd_space.specs.Parcels.{Sending, new_object, resolve, sending_of}
+use Rattle.bd_space.specs.Delivery.{Delivery}
 use Rattle.bd_space.specs.Steps.{is_manager_busy, is_pid, is_window, open_fault}
 use Rattle.bd_laws.specs.Lists.{In}
 use Rattle.bd_laws.specs.Items.{IsQueued}
+use Rattle.bd_laws.specs.Objects.{Here}
 use Rattle.bd_laws.specs.Tidy.{IsTidy}
-use Rattle.bd_laws.proofs.Lists.{in_append}
+use Rattle.bd_laws.proofs.Lists.{in_append, in_left}
+use Rattle.bd_laws.proofs.Objects.{here_found, asked_found, carried_found}
+use Rattle.bd_laws.proofs.Checks.{asked_others}
 use Rattle.bd_laws.proofs.Tests.{same_eq, and_then_ok, unless_ok, when_none}
 use Rattle.bd_laws.proofs.Fewer.{to_false}
 use Rattle.bd_laws.proofs.Sending.{find_none}
-use Rattle.bd_laws.proofs.Sendings.{Made, none_made, resolves, resolved_by, sending_keeps}
-use Rattle.bd_nodes.specs.New.{IsNewIn, AreNewIn}
-use Rattle.bd_objects.specs.New.{IsNewManager, IsNewDeath}
+use Rattle.bd_laws.proofs.Sendings.{Made, none_made, resolves, resolved_by, sending_keeps, sending_sends}
+use Rattle.bd_records.specs.New.{IsNewIn, AreNewIn}
+use Rattle.bd_objects.specs.New.{IsAsked, IsNewManager, IsNewDeath}
+use Rattle.bd_step.specs.Meets.{IsAsking}
+use Rattle.bd_step.specs.Deliveries.{CanSend}
 
 pub is_none : {A : Type 0} (o : Option A) → is_some o ≡ false → o ≡ None
 is_none None h = refl
@@ -79,8 +85,26 @@ module _ (s : Space) (p : ℕ) (tidy : IsTidy s) where
       }
 
   -- what a parcel makes is new
-  pub sending_new : (d : TransactionData) (parcel : Option Parcel) (v : Sending) → sending_of s p d parcel ≡ Ok v → AreNewIn s.objects v.made
+  sending_new : (d : TransactionData) (parcel : Option Parcel) (v : Sending) → sending_of s p d parcel ≡ Ok v → AreNewIn s.objects v.made
   sending_new d parcel v h = (sending_keeps s p MadeNew (record { makes = none_made s p; new = tt }) made_more d parcel v h).new
+
+  -- it can be sent, to a target that is there
+  pub can_send : (d : TransactionData) (parcel : Option Parcel) (v : Delivery) → sending_of s p d parcel ≡ Ok v.sending → ((o : Identity) → v.target ≡ Some o → Here s.objects o) → CanSend v s
+  can_send d parcel v h target = record {
+    new = sending_new d parcel v.sending h;
+    carried = carried_found s p v.sending.made v.sending.items tidy.before.objects (sending_sends s p d parcel v.sending h);
+    aimed = λ o e. let x = target o e in here_found (s.objects ++ v.sending.made) o (x.0, in_left x.0 s.objects v.sending.made x.1, x.2);
+  }
+
+-- ---- asking
+
+pub asks_for : (s : Space) (place : ℕ) (managed : Option Identity) (p : ℕ) (o : Identity) (strong : Bool) → s.steps ≡ place → s.manager ≡ managed → IsAsking p o strong s → IsAsked place managed p o s
+asks_for s place managed p o strong at manages k = record {
+  at = at;
+  manages = manages;
+  here = asked_found s p k.checked.0 strong o k.tidy.before.objects k.checked.1;
+  others = asked_others s p k.checked.0 strong o k.checked.1;
+}
 
 -- ---- the context manager
 

@@ -1,12 +1,14 @@
 -- What is so of a sending that was read, and of a delivery that its receiver's window can take.
-use Rattle.std.specs.Prelude.{ℕ, ◌≡◌, ◌+◌, ◌*◌, ◌≤◌, List, [], Option, Some, None, length, All}
-use Rattle.bd_ways.specs.Words.{TransactionData, Parcel, Object, Item, Space}
+use Rattle.std.specs.Prelude.{ℕ, ◌≡◌, ◌+◌, ◌*◌, ◌≤◌, true, List, [], ◌++◌, Option, Some, None, is_some, length, All}
+use Rattle.bd_ways.specs.Words.{list_all, TransactionData, Identity, Parcel, Object, Item, Space}
+use Rattle.bd_space.specs.References.{object_in}
 use Rattle.bd_space.specs.Seats.{process_in}
 use Rattle.bd_space.specs.Windows.{needed}
 use Rattle.bd_space.specs.Parcels.{Sending}
 use Rattle.bd_space.specs.Delivery.{Delivery}
 use Rattle.bd_ways.specs.Tables as tables
-use Rattle.bd_nodes.specs.New.{AreNewIn}
+use Rattle.bd_records.specs.New.{AreNewIn}
+use Rattle.bd_objects.specs.New.{IsHere}
 use Rattle.bd_objects.specs.Room as object_rooms
 use Rattle.bd_calls.specs.Room as call_rooms
 use Rattle.bd_calls.specs.Stacked.{TakesCalls}
@@ -52,17 +54,19 @@ pub record IsReady (t : Tables) (d : TransactionData) (v : Delivery) : Type 0 wh
   pub room : HasRoom t (object_rooms.delivery_room v.receiver.made v.sending.made v.sending.items) (2 * length v.sending.items + 3)
   pub buffer : HasBufferRoom t.windows v.receiver.made v.start (size_of d)
 
--- what it makes is new
-abbrev pub SendsNew : Delivery → Space → Type 0
-SendsNew v s = AreNewIn s.objects v.sending.made
+-- the space of a delivery: what it makes is new there, and with that all is there that its buffer is to refer to
+pub record CanSend (v : Delivery) (s : Space) : Type 0 where
+  pub new : AreNewIn s.objects v.sending.made
+  pub carried : list_all (λ x. is_some (object_in (s.objects ++ v.sending.made) x.object)) v.sending.items ≡ true
+  pub aimed : (o : Identity) → v.target ≡ Some o → IsHere o (s.objects ++ v.sending.made)
 
--- from before a step to within it a delivery makes what f makes of each space in which what it makes is new
+-- from before a step to within it a delivery makes what f makes of each space that can be its
 abbrev pub Delivers : Tables → Tables → Delivery → (Space → Space) → Type 0
-Delivers old new v f = tables.MakesWhere (Before old) (SendsNew v) (Within new) f
+Delivers old new v f = tables.MakesWhere (Before old) (CanSend v) (Within new) f
 
--- the space of a call: what it makes is new, its receiver lives there, and it takes calls
+-- the space of a call: of its delivery, its receiver lives there, and it takes calls
 pub record CanCall (v : Delivery) (s : Space) : Type 0 where
-  pub new : SendsNew v s
+  pub sends : CanSend v s
   pub lives : process_in s.processes v.receiver.made ≡ Some v.receiver
   pub takes : TakesCalls s
 
@@ -70,13 +74,12 @@ pub record CanCall (v : Delivery) (s : Space) : Type 0 where
 abbrev pub DeliversCall : Tables → Tables → Delivery → (Space → Space) → Type 0
 DeliversCall old new v f = tables.MakesWhere (Before old) (CanCall v) (Within new) f
 
--- a change takes room for so many frames, one-way calls and work items, and adds at most so many objects
-pub record Spends (old new : Tables) (objects frames turns works : ℕ) : Type 0 where
+-- a change takes room for so many frames, one-way calls and work items
+pub record Spends (old new : Tables) (frames turns works : ℕ) : Type 0 where
   pub calls : call_rooms.Uses old.calls new.calls (record call_rooms.nothing { frames = frames; turns = turns; works = works })
-  pub objects_count : object_rooms.object_count new.objects ≤ object_rooms.object_count old.objects + objects
 
 abbrev pub SpendsNothing : Tables → Tables → Type 0
-SpendsNothing old new = Spends old new 0 0 0 0
+SpendsNothing old new = Spends old new 0 0 0
 
 -- a change of work items alone takes room for at most so many
 pub record OnlyWorks (old new : Tables) (works : ℕ) : Type 0 where
@@ -84,8 +87,7 @@ pub record OnlyWorks (old new : Tables) (works : ℕ) : Type 0 where
   pub objects_are : new.objects ≡ old.objects
   pub windows_are : new.windows ≡ old.windows
 
--- a change of objects, references and names alone adds at most so many objects
-pub record OnlyObjects (old new : Tables) (objects : ℕ) : Type 0 where
-  pub count : object_rooms.object_count new.objects ≤ object_rooms.object_count old.objects + objects
+-- a change of objects, references and names alone
+pub record OnlyObjects (old new : Tables) : Type 0 where
   pub calls_are : new.calls ≡ old.calls
   pub windows_are : new.windows ≡ old.windows

@@ -7,7 +7,7 @@ use Rattle.bd_space.specs.Todo.{work_on, hands_out, is_call, is_notice}
 use Rattle.bd_space.specs.ProcessExits.{is_dropped_with}
 use Rattle.bd_ways.specs.Local.{is_among}
 use Rattle.bd_laws.specs.Lists.{In}
-use Rattle.bd_nodes.specs.New.{HasAll}
+use Rattle.bd_records.specs.New.{HasAll}
 use Rattle.bd_calls.specs.Closing.{is_place_among}
 use Rattle.bd_step.specs.declared.exit.Exit.{Exit}
 

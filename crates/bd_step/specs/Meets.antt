@@ -1,8 +1,9 @@
 -- What a step of the tables meets: the definition, on every space that they stand for.
-use Rattle.std.specs.Prelude.{ℕ, ◌≡◌, true, Option, Some, None, Result, Ok, IfOk, IfErr, OnOk, OnErr}
-use Rattle.bd_ways.specs.Words.{TransactionData, Parcel, StepAnswer, Actor, Space, Frame}
+use Rattle.std.specs.Prelude.{ℕ, ◌≡◌, Bool, true, Option, Some, None, Result, Ok, IfOk, IfErr, OnOk, OnErr}
+use Rattle.bd_ways.specs.Words.{TransactionData, Identity, Parcel, StepAnswer, Actor, Space, Frame}
 use Rattle.bd_space.specs.Seats.{actor}
 use Rattle.bd_space.specs.Names.{has_number_past_limit}
+use Rattle.bd_space.specs.Asking.{ask_check}
 use Rattle.bd_space.specs.Outcomes.{Outcome}
 use Rattle.bd_space.specs.Delivery.{Delivery}
 use Rattle.bd_space.specs.Frames.{served_innermost}
@@ -37,6 +38,11 @@ IsAny s = IsTidy s
 pub record IsSending (a : Actor) (d : TransactionData) (v : Delivery) (s : Space) : Type 0 where
   pub tidy : IsTidy s
   pub checked : (parcel : Option Parcel) × (transaction_check s a d parcel ≡ Ok v)
+
+-- it is this process's asking for this object, by some number, that nothing stands against
+pub record IsAsking (p : ℕ) (o : Identity) (strong : Bool) (s : Space) : Type 0 where
+  pub tidy : IsTidy s
+  pub checked : (n : ℕ) × (ask_check s p n strong ≡ Ok o)
 
 -- the thread of the seat serves this frame innermost
 pub record IsServing (seat : ℕ) (f : Frame) (s : Space) : Type 0 where

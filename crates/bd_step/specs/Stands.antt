@@ -91,15 +91,14 @@ KeepsTold old new = told.KeepsTold old.calls new.calls
 
 -- ---- room
 
--- a change makes at most so many work items, and adds at most so many objects, frames and one-way calls
-pub record Uses (old new : Tables) (objects frames turns works : ℕ) : Type 0 where
+-- a change makes at most so many work items, and adds at most so many frames and one-way calls
+pub record Uses (old new : Tables) (frames turns works : ℕ) : Type 0 where
   pub works_fit : call_rooms.work_room old.calls ≤ call_rooms.work_room new.calls + works
-  pub objects_count : object_rooms.object_count new.objects ≤ object_rooms.object_count old.objects + objects
   pub frames_count : call_rooms.frame_count new.calls ≤ call_rooms.frame_count old.calls + frames
   pub turns_count : call_rooms.turn_count new.calls ≤ call_rooms.turn_count old.calls + turns
 
 abbrev pub UsesNothing : Tables → Tables → Type 0
-UsesNothing old new = Uses old new 0 0 0 0
+UsesNothing old new = Uses old new 0 0 0
 
 -- room for the work items of the calls that may close, and for so many more
 abbrev pub CanFollow : Tables → ℕ → Type 0

@@ -97,7 +97,7 @@ impl Tables {
         requires can_add { CanAdd self.old.windows buffer.receiver buffer.one_way buffer.size buffer.start }
         ensures stands { (s : Space) → Before self.old s → s.steps ≡ buffer.entry.made
             → Within self.new (delivery.add_buffer s buffer.entry) }
-        ensures spends { Spends self.old self.new 0 0 1 0 }
+        ensures spends { Spends self.old self.new 0 1 0 }
         ensures told { KeepsTold self.old self.new }
     {
         self.calls.add_turn(turn_of(&buffer));

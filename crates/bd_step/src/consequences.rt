@@ -13,7 +13,7 @@ impl Tables {
     pub(crate) fn ripen_next(&mut self, object: Option<Identity>)
         requires { 1 ≤ work_room self.old.calls }
         ensures stands { MakesWithin self.old self.new (ripen_next object) }
-        ensures uses { Uses self.old self.new 0 0 0 1 }
+        ensures uses { Uses self.old self.new 0 0 1 }
         ensures told { KeepsTold self.old self.new }
     {
         if let Some(o) = object {

@@ -179,7 +179,7 @@ impl Tables {
     fn owe_deaths(&mut self, due: &[DeathNotification])
         requires { length due.now ≤ work_room self.old.calls }
         ensures stands { MakesWithin self.old self.new (λ s. owed s due.now) }
-        ensures uses { Uses self.old self.new 0 0 0 (length due.now) }
+        ensures uses { Uses self.old self.new 0 0 (length due.now) }
         ensures told { KeepsTold self.old self.new }
     {
         for x in due {
@@ -193,7 +193,7 @@ impl Tables {
         requires { length due.now ≤ work_room self.old.calls }
         ensures stands { (s : Space) → Within self.old s → due.now ≡ filter (is_due s.objects p) s.deaths
             → Within self.new (exits.tell_deaths s p) }
-        ensures uses { Uses self.old self.new 0 0 0 (length due.now) }
+        ensures uses { Uses self.old self.new 0 0 (length due.now) }
         ensures told { KeepsTold self.old self.new }
     {
         self.owe_deaths(due);

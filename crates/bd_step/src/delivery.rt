@@ -15,7 +15,7 @@ ghost use Rattle.bd_calls.specs.Room as call_rooms;
 ghost use Rattle.bd_buffers.specs.WindowsStand.{CanAdd, HasBufferRoom};
 ghost use Rattle.bd_step.specs.{Stands.{Before, Tells, Makes, Begins, PassesLimit, KeepsTold}, Meets.{IsKept}};
 ghost use Rattle.bd_step.specs.Following.{AreTouched};
-ghost use Rattle.bd_step.specs.Deliveries.{IsSound, IsDeliverable, IsReady, SendsNew, Delivers, Spends, OnlyWorks, OnlyObjects, sending, size_of, IsCopy};
+ghost use Rattle.bd_step.specs.Deliveries.{IsSound, IsDeliverable, IsReady, CanSend, Delivers, Spends, OnlyWorks, OnlyObjects, sending, size_of, IsCopy};
 
 use crate::sending::Sending;
 use crate::tables::Tables;
@@ -378,11 +378,11 @@ impl Tables {
     fn deliver_objects(&mut self, delivery: &Delivery<'_>) -> Result<(), NumbersFull>
         requires { object_rooms.HasRoom self.old.objects
             (object_rooms.delivery_room delivery.now.receiver.made delivery.now.sending.made delivery.now.sending.items) }
-        ensures ok { OnOk result (MakesWhere (Before self.old) (SendsNew delivery.now) (Before self.new)
+        ensures ok { OnOk result (MakesWhere (Before self.old) (CanSend delivery.now) (Before self.new)
             (λ s. spec.with_carried s delivery.now)) }
         ensures err { OnErr result (IsKept self.old self.new) }
         ensures full { OnErr result (PassesLimit self.old (λ s. names_go (spec.with_carried s delivery.now))) }
-        ensures objects { OnlyObjects self.old self.new (length delivery.now.sending.made) }
+        ensures objects { OnlyObjects self.old self.new }
         ensures told { KeepsTold self.old self.new }
     {
         self.objects.deliver(
@@ -403,7 +403,7 @@ impl Tables {
         requires room { HasBufferRoom self.old.windows delivery.receiver.made delivery.start (size_of sent.now) }
         ensures stands { Begins self.old self.new
             (λ s. spec.own_notices (spec.add_buffer s (spec.buffer_of s actor sent.now delivery.entry)) actor.thread.seat delivery.entry.sending.items) }
-        ensures spends { Spends self.old self.new 0 0 1 (length delivery.entry.sending.items) }
+        ensures spends { Spends self.old self.new 0 1 (length delivery.entry.sending.items) }
         ensures told { KeepsTold self.old self.new }
     {
         self.own_notices(actor.thread.seat, delivery.items());
@@ -424,7 +424,7 @@ impl Tables {
         ensures ok { OnOk result (Delivers self.old self.new delivery.entry (λ s. spec.delivered s actor sent.now delivery.entry)) }
         ensures err { OnErr result (IsKept self.old self.new) }
         ensures full { OnErr result (PassesLimit self.old (λ s. names_go (spec.with_carried s delivery.entry))) }
-        ensures spends { OnOk result (Spends self.old self.new (length delivery.entry.sending.made) 0 1 (length delivery.entry.sending.items)) }
+        ensures spends { OnOk result (Spends self.old self.new 0 1 (length delivery.entry.sending.items)) }
         ensures told { KeepsTold self.old self.new }
     {
         match self.deliver_objects(&delivery) {

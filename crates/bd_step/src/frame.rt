@@ -18,7 +18,7 @@ impl Tables {
         requires frames { 1 ≤ frame_room self.old.calls }
         requires works { 1 ≤ work_room self.old.calls }
         ensures stands { MakesOfStacked self.old self.new (λ s. transactions.call_out s seat process) }
-        ensures spends { Spends self.old self.new 0 1 0 1 }
+        ensures spends { Spends self.old self.new 1 0 1 }
         ensures told { KeepsTold self.old self.new }
     {
         self.calls.call_out(self.steps, seat, process);

@@ -177,7 +177,7 @@ impl Tables {
             → seats.now ≡ map exits.seat_of (filter (λ t. t.process == p) s.threads)
             → due.now ≡ due_in s.objects p s.deaths
             → Within self.new (exits.tell_deaths (exits.without_process (exits.threads_go s p) p) p) }
-        ensures uses { Uses self.old self.new 0 0 0 (length due.now) }
+        ensures uses { Uses self.old self.new 0 0 (length due.now) }
         ensures told { KeepsTold self.old self.new }
     {
         self.threads_go(seats);

@@ -4,9 +4,10 @@
 ghost use Rattle.std.specs.Prelude.{◌≡◌, ◌≤◌, IfErr, OnOk, OnErr};
 ghost use Rattle.bd_space.specs.Asking as asking;
 ghost use Rattle.bd_space.specs.Outcomes.{completed, by_check};
+ghost use Rattle.bd_ways.specs.Tables.{MakesWhere};
 ghost use Rattle.bd_objects.specs.Room.{reference_room, name_room};
 ghost use Rattle.bd_calls.specs.Room.{work_room};
-ghost use Rattle.bd_step.specs.{Stands.{MakesOfTidy, PassesLimit, KeepsTold}, Meets.{IsBy, IsKept, IsStep}};
+ghost use Rattle.bd_step.specs.{Stands.{Within, MakesOfTidy, PassesLimit, KeepsTold}, Meets.{IsBy, IsAsking, IsKept, IsStep}};
 
 use crate::answer::Plain;
 use crate::step_error::StepError;
@@ -21,7 +22,8 @@ impl Tables {
         requires references { 1 ≤ reference_room self.old.objects }
         requires names { 1 ≤ name_room self.old.objects p }
         requires works { 1 ≤ work_room self.old.calls }
-        ensures stands { OnOk result (MakesOfTidy self.old self.new (λ s. completed (asking.ask s p o strong))) }
+        ensures stands { OnOk result (MakesWhere (Within self.old) (IsAsking p o strong) (Within self.new)
+            (λ s. completed (asking.ask s p o strong))) }
         ensures kept { OnErr result (IsKept self.old self.new) }
         ensures full { OnErr result (PassesLimit self.old (λ s. completed (asking.ask s p o strong))) }
         // There is room by then, so that nothing else is a reason.

@@ -47,7 +47,7 @@ impl Tables {
         ensures stands { Makes self.old self.new
             (λ s. todo.tell_caller (todo.owe (frames.closed s f.made) (OfThread seat) (kinds.Complete false)) f
             (kinds.Reply s.steps)) }
-        ensures spends { Spends self.old self.new 0 0 0 2 }
+        ensures spends { Spends self.old self.new 0 0 2 }
         ensures told { KeepsTold self.old self.new }
     {
         self.close(f.made);
@@ -114,7 +114,7 @@ impl Tables {
     fn refuse_reply(&mut self, seat: u32, f: Frame)
         requires { 2 ≤ work_room self.old.calls }
         ensures stands { Makes self.old self.new (λ s. spec.reply_refused s seat f) }
-        ensures spends { Spends self.old self.new 0 0 0 2 }
+        ensures spends { Spends self.old self.new 0 0 2 }
         ensures told { KeepsTold self.old self.new }
     {
         self.owe(seat, WorkKind::Refusal(Return::TransactionComplete));

@@ -19,7 +19,7 @@ impl Tables {
     pub(crate) fn owe(&mut self, seat: u32, kind: WorkKind)
         requires { 1 ≤ work_room self.old.calls }
         ensures stands { Makes self.old self.new (λ s. todo.owe s (OfThread seat) kind) }
-        ensures spends { Spends self.old self.new 0 0 0 1 }
+        ensures spends { Spends self.old self.new 0 0 1 }
         ensures told { KeepsTold self.old self.new }
     {
         self.calls.owe(self.steps, TodoList::OfThread(seat), kind);
@@ -29,7 +29,7 @@ impl Tables {
     pub(crate) fn tell_caller(&mut self, f: Frame, kind: WorkKind)
         requires { 1 ≤ work_room self.old.calls }
         ensures stands { Makes self.old self.new (λ s. todo.tell_caller s f kind) }
-        ensures spends { Spends self.old self.new 0 0 0 1 }
+        ensures spends { Spends self.old self.new 0 0 1 }
         ensures told { KeepsTold self.old self.new }
     {
         self.calls.tell_caller(self.steps, f, kind);

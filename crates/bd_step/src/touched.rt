@@ -88,7 +88,7 @@ impl Tables {
         requires { 1 ≤ work_room self.old.calls }
         ensures stands { (s : Space) → owner ≡ owner_due s (object_in s.objects o) → Within self.old s
             → Within self.new (told_of (o ∷ []) s) }
-        ensures uses { Uses self.old self.new 0 0 0 1 }
+        ensures uses { Uses self.old self.new 0 0 1 }
         ensures told { KeepsTold self.old self.new }
     {
         if let Some(p) = owner {
@@ -112,7 +112,7 @@ impl Tables {
     fn notify_objects(&mut self, touched: &[Identity])
         requires { length touched.now ≤ work_room self.old.calls }
         ensures stands { MakesWithin self.old self.new (told_of touched.now) }
-        ensures uses { Uses self.old self.new 0 0 0 (length touched.now) }
+        ensures uses { Uses self.old self.new 0 0 (length touched.now) }
         ensures told { KeepsTold self.old self.new }
     {
         for o in touched {
@@ -125,7 +125,7 @@ impl Tables {
     fn follow_object(&mut self, o: Identity)
         requires { 1 ≤ work_room self.old.calls }
         ensures stands { MakesWithin self.old self.new (followed_at o) }
-        ensures uses { Uses self.old self.new 0 0 0 1 }
+        ensures uses { Uses self.old self.new 0 0 1 }
         ensures told { KeepsTold self.old self.new }
     {
         let owner = self.remove_unkept(o);
@@ -137,7 +137,7 @@ impl Tables {
         requires in_order { Pairs NotLater touched.now }
         requires room { length touched.now ≤ work_room self.old.calls }
         ensures stands { MakesOfOrdered self.old self.new (follow_of no_name (is_among touched.now)) }
-        ensures uses { Uses self.old self.new 0 0 0 (length touched.now) }
+        ensures uses { Uses self.old self.new 0 0 (length touched.now) }
         ensures told { KeepsTold self.old self.new }
     {
         // Most steps touch one object, which is then looked for once.
@@ -155,7 +155,7 @@ impl Tables {
         requires in_order { Pairs NotLater touched.now }
         requires room { length touched.now ≤ work_room self.old.calls }
         ensures stands { MakesOfOrdered self.old self.new (follow_of (names_among p touched.now) (is_among touched.now)) }
-        ensures uses { Uses self.old self.new 0 0 0 (length touched.now) }
+        ensures uses { Uses self.old self.new 0 0 (length touched.now) }
         ensures told { KeepsTold self.old self.new }
     {
         for o in touched {

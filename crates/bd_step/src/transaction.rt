@@ -175,7 +175,7 @@ impl Tables {
         requires works { 2 ≤ work_room self.old.calls }
         ensures stands { MakesOfStacked self.old self.new
             (λ s. spec.called (todo.owe s (OfThread seat) (kinds.Complete spam)) seat receiver one_way) }
-        ensures spends { Spends self.old self.new 0 1 0 2 }
+        ensures spends { Spends self.old self.new 1 0 2 }
         ensures told { KeepsTold self.old self.new }
     {
         self.owe(seat, WorkKind::Complete { spam });

@@ -92,7 +92,8 @@ buffer_reference b q [] (Some o) k r (inr l) = absurd l
 buffer_reference b q (x ∷ xs) target k r (inl e) = inl (x, inl refl, ap (λ (x : Reference). x.object) e)
 buffer_reference b q (x ∷ xs) target k r (inr l) = search (arith, buffer_reference b q xs target (k + 1) r l)
 
-sent_here : (s : Space) (p : ℕ) (made : List Object) (o : Identity) → KeptBefore s → Sent s p made o → Here (s.objects ++ made) o
+-- what a parcel's sender sends is there, or the sending makes it
+pub sent_here : (s : Space) (p : ℕ) (made : List Object) (o : Identity) → KeptBefore s → Sent s p made o → Here (s.objects ++ made) o
 sent_here s p made o h (inl w) = (w.0, w.1, w.2)
 sent_here s p made o h (inr m) =
     let r = h.named m.0 m.1 in
@@ -141,7 +142,8 @@ replied_kept s a d parcel f v h check =
     (delivered_kept x a d v (closed_before s f.made h) (closed_sends s f.made a.process.made v.sending.made v.sending.items (sending_sends s a.process.made d parcel v.sending t.sends))
     (λ o e. let none = t.target in absurd (cc))))
 
-asked_here : (s : Space) (p : ℕ) (o : Identity) (n : ℕ) → KeptBefore s → ((n ≡ 0) × (s.manager ≡ Some o)) ⊎ HasName s.names p o → Here s.objects o
+-- so is what a process may ask for
+pub asked_here : (s : Space) (p : ℕ) (o : Identity) (n : ℕ) → KeptBefore s → ((n ≡ 0) × (s.manager ≡ Some o)) ⊎ HasName s.names p o → Here s.objects o
 asked_here s p o n h (inl m) = let r = h.kept.manages o m.1 in let x = h.kept.refs r.0 r.1 in (x.0, x.1, x.2 ∙ r.2)
 asked_here s p o n h (inr m) = let r = h.named m.0 m.1 in let x = h.kept.refs r.0 r.1 in (x.0, x.1, x.2 ∙ r.2 ∙ m.3)
 

@@ -1,14 +1,15 @@
 use Rattle.std.proofs.Common.{ℕ, ◌+◌, ◌≤◌, ◌++◌, take, fold, List}
 use Rattle.bd_space.specs.declared.space.Name.{Name}
 use Rattle.bd_space.specs.declared.space.Object.{Object}
-use Rattle.bd_nodes.specs.Stands.{NodesAre}
-use Rattle.bd_handles.specs.Stands.{NamesSince, NamesAre, name_room}
+use Rattle.bd_space.specs.declared.space.Reference.{Reference}
+use Rattle.bd_records.specs.{Records.{RecordsAre}, Since.{Since, Settled}, Room.{Uses}}
 use Rattle.bd_objects.proofs.Giving.{give}
 use Rattle.bd_objects.proofs.naming.give_names.Given as goal
 
 abbrev pub invariant-loop-x : goal.invariant-loop-x
 invariant-loop-x l = record {
-  so_far : (objects : List Object) (ns : List Name) → NodesAre l.nodes objects → NamesAre l.fn.names ns
-      → NamesSince l.names ns (fold (give l.manager (objects ++ l.fn.made) l.p) ns (take l.x-index l.items));
-  room : (q : ℕ) → name_room l.fn.names q ≤ name_room l.names q + l.x-index;
+  kept : (objects : List Object) (references : List Reference) → RecordsAre l.fn.records objects references → RecordsAre l.records objects references;
+  so_far : (objects : List Object) (references : List Reference) (ns : List Name) → RecordsAre l.fn.records objects references → Settled l.fn.records ns
+      → Since l.records ns (fold (give l.manager (objects ++ l.fn.made) l.p) ns (take l.x-index l.items));
+  room : Uses l.fn.records l.records 0 0 l.x-index;
 }

@@ -5,11 +5,11 @@ use Rattle.bd_objects.specs.Made.{made_items}
 use Rattle.bd_objects.proofs.parcels.own_or_made.Goals as goal
 
 pub returns-in-Some : goal.returns-in-Some
-returns-in-Some c = λ objects h.
+returns-in-Some c = λ objects l h.
     let is_own = λ (x : Object). (x.owner == c.args.p) && (x.ptr == c.args.ptr) in
-    rw (find-append is_own objects (made_items c.args.made.now), ← c.in-Some.ensures objects h) refl
+    rw (find-append is_own objects (made_items c.args.made.now), ← c.in-Some.ensures objects l h) refl
 
 pub returns-in-None : goal.returns-in-None
-returns-in-None c = λ objects h.
+returns-in-None c = λ objects l h.
     let is_own = λ (x : Object). (x.owner == c.args.p) && (x.ptr == c.args.ptr) in
-    rw (find-append is_own objects (made_items c.args.made.now), ← c.in-None.ensures objects h) c.find_own.ensures
+    rw (find-append is_own objects (made_items c.args.made.now), ← c.in-None.ensures objects l h) c.find_own.ensures

@@ -1,15 +1,16 @@
-use Rattle.std.proofs.Common.{subst, arith}
-use Rattle.bd_nodes.specs.Stands.{NodesAre}
+use Rattle.std.proofs.Common.{refl, sym, subst, arith}
+use Rattle.bd_records.specs.Records.{RecordsAre}
 use Rattle.bd_objects.proofs.Owners.{told_one, told_nobody}
 use Rattle.bd_objects.proofs.reading.tell_owner.Goals as goal
 
 pub returns-in-Some-clause-stands : goal.returns-in-Some-clause-stands
-returns-in-Some-clause-stands c = λ objects l n r.
-    rw (← c.in-Some.ensures) (subst (λ xs. NodesAre c.set_told.new.self xs)
-    (told_one l c.in-Some.o _ _ objects (c.hold-hold.ensures.held l r) (c.hold-hold.ensures.strong l r)) (c.set_told.ensures.stands objects n))
+returns-in-Some-clause-stands c = λ objects l h.
+    rw (← c.in-Some.ensures) (subst (λ xs. RecordsAre c.set_told.new.self xs l)
+    (told_one l c.in-Some.o _ _ objects (c.hold-hold.ensures.held objects l h) (c.hold-hold.ensures.strong objects l h)) (c.set_told.ensures.stands objects l h))
 
 pub returns-in-None : goal.returns-in-None
 returns-in-None c = record {
-  stands = λ objects l n r. rw (← c.in-None.ensures) (subst (λ xs. NodesAre c.args.nodes.now xs) (told_nobody l objects) n);
-  uses = record { room = omega arith; count = omega arith };
+  stands = λ objects l h. rw (← c.in-None.ensures) (subst (λ xs. RecordsAre c.args.records.now xs l) (told_nobody l objects) h);
+  names = λ names n. n;
+  uses = record { objects_fit = omega arith; references_fit = omega arith; names_fit = λ q. omega arith };
 }

@@ -3,14 +3,13 @@ use Rattle.bd_space.specs.Words.{changed}
 use Rattle.bd_space.specs.ReadItems.{is_told_by, told_of}
 use Rattle.bd_space.specs.declared.space.Object.{Object}
 use Rattle.bd_space.specs.declared.space.Reference.{Reference}
-use Rattle.bd_nodes.specs.Stands.{NodesAre}
-use Rattle.bd_nodes.specs.Room.{Uses}
-use Rattle.bd_holds.specs.Stands.{ReferencesAre}
+use Rattle.bd_records.specs.{Records.{RecordsAre}, Since.{KeepsSettled}, Room.{Uses}}
 use Rattle.bd_objects.proofs.reading.tell_owners.Given as goal
 
 abbrev pub invariant-loop-w : goal.invariant-loop-w
 invariant-loop-w l = record {
-  so_far : (objects : List Object) (rs : List Reference) → NodesAre l.fn.nodes objects → ReferencesAre l.references rs
-      → NodesAre l.nodes (changed (λ x. is_told_by (take l.w-index l.taken) x.id) (told_of rs) objects);
-  uses : Uses l.fn.nodes l.nodes 0;
+  so_far : (objects : List Object) (rs : List Reference) → RecordsAre l.fn.records objects rs
+      → RecordsAre l.records (changed (λ x. is_told_by (take l.w-index l.taken) x.id) (told_of rs) objects) rs;
+  names : KeepsSettled l.fn.records l.records;
+  uses : Uses l.fn.records l.records 0 0 0;
 }

@@ -1,7 +1,7 @@
 use Rattle.std.proofs.Common.{◌≡◌, cond, None, Some, sym, ap, ◌∙◌, subst}
 use Rattle.std.specs.Prelude.{option_map}
 use Rattle.bd_numbered.specs.Numbered.{value_at}
-use Rattle.bd_handles.specs.Keys.{number_at}
+use Rattle.bd_records.specs.NumberKeys.{number_at}
 use Rattle.bd_records.specs.NameRows.{object_of}
 use Rattle.bd_records.proofs.{Given.{here}, Stepping.{not_shown}}
 use Rattle.bd_records.proofs.keys.remove_at.Goals as goal

@@ -1,7 +1,7 @@
 use Rattle.std.proofs.Common.{◌≡◌, None, Some, refl, sym, ◌∙◌, subst, ◌<◌, arith}
 use Rattle.bd_ways.specs.Words.{Identity}
 use Rattle.bd_numbered.specs.Numbered.{value_at}
-use Rattle.bd_handles.specs.Keys.{number_at}
+use Rattle.bd_records.specs.NumberKeys.{number_at}
 use Rattle.bd_records.specs.NameRows.{object_in}
 use Rattle.bd_records.proofs.Stepping.{IsBefore, still_ahead, is_before, before_more, ahead_less, not_shown}
 use Rattle.bd_records.proofs.keys.remove_numbers.Goals as goal

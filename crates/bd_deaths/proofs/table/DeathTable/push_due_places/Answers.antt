@@ -5,7 +5,7 @@ use Rattle.std.proofs.lemmas.List.{map-id}
 use Rattle.std.proofs.lemmas.Result.{err_from_is_err_and}
 use Rattle.std.proofs.lemmas.Iterator.Consumers.{YieldsList-at, YieldsList-from_first, YieldsList-end}
 use Rattle.std.proofs.Math.Bool.{or-false}
-use Rattle.bd_nodes.specs.New.{HasAll}
+use Rattle.bd_records.specs.New.{HasAll}
 use Rattle.bd_deaths.proofs.Visiting.{put_next, both_told}
 use Rattle.bd_deaths.proofs.table.DeathTable.push_due_places.Goals as goal
 
@@ -25,6 +25,6 @@ returns-clause-all c = λ objects l ns h n e.
     let road = YieldsList-end (YieldsList-at c.into_iter-o-iterator.ensures.into_iter_gives (YieldsList-from_first (λ x. x) (λ s. s) _ refl))
     c.loop-o.yielded _ c.loop-o.yielded_by _ _ c.in-None.is c.next.ensures.steps in
     let all = sym (map-id c.loop-o.yielded) ∙ road.0 in
-    let has = subst (λ os. HasAll os (map (λ x. x.id) (filter (λ x. x.owner == c.args.p) objects))) (sym all) (c.listed-o-items.ensures.all objects ns) in
+    let has = subst (λ os. HasAll os (map (λ x. x.id) (filter (λ x. x.owner == c.args.p) objects))) (sym (c.listed-o-items.ensures objects ns.0 ns.1) ∙ sym all) (λ o e. e) in
     c.loop-o.invariant objects l ns h.are_in n
     ∙ or_right _ _ (both_told c.args.self.now.groups objects c.args.p c.loop-o.yielded has l h.listed n ∙ e)

@@ -3,7 +3,7 @@ use Rattle.std.specs.Prelude.{◌==◌, All}
 use Rattle.std.proofs.lemmas.List.{map-id}
 use Rattle.std.proofs.lemmas.Iterator.Consumers.{YieldsList-at, YieldsList-from_first, YieldsList-end}
 use Rattle.bd_groups.specs.Members.{members}
-use Rattle.bd_nodes.specs.New.{HasAll}
+use Rattle.bd_records.specs.New.{HasAll}
 use Rattle.bd_space.specs.Words.{changed}
 use Rattle.bd_deaths.specs.Keys.{object_group}
 use Rattle.bd_deaths.specs.Due.{is_queued_in}
@@ -44,7 +44,7 @@ returns-clause-stands c = λ objects l n h.
     let road = YieldsList-end (YieldsList-at c.into_iter-o-iterator.ensures.into_iter_gives (YieldsList-from_first (λ x. x) (λ s. s) _ refl))
     c.loop-o.yielded _ c.loop-o.yielded_by _ _ c.in-None.is c.next.ensures.steps in
     let all = sym (map-id c.loop-o.yielded) ∙ road.0 in
-    let has = subst (λ os. HasAll os (map (λ x. x.id) (filter (λ x. x.owner == p) objects))) (sym all) (c.listed-o-items.ensures.all objects n) in
+    let has = subst (λ os. HasAll os (map (λ x. x.id) (filter (λ x. x.owner == p) objects))) (sym (c.listed-o-items.ensures objects n.0 n.1) ∙ sym all) (λ o e. e) in
     record {
       are_in = subst (AreIn c.loop-o.self.list) (all_queued groups objects p c.loop-o.yielded has l h.listed) (inv.so_far objects l n h.are_in);
       listed = subst (λ g. All (IsListed g) (changed (is_queued_in l objects p) (queued objects p) l)) (sym inv.groups)

@@ -1,10 +1,60 @@
-use Rattle.std.proofs.Common.{◌≡◌, ◌≤◌, ◌++◌, ◌∷◌, [], List, Some, true, length, sym, ap, subst, ◌∙◌, arith, length-append}
+use Rattle.std.proofs.Common.{◌≡◌, ◌≤◌, ◌++◌, ◌∷◌, [], List, Some, Result, Ok, Err, OnOk, true, false, is_err, length, sym, ap, subst, ◌∙◌, arith, length-append}
 use Rattle.bd_space.specs.declared.step.Entry.{Entry}
-use Rattle.bd_space.specs.Histories.{History, history_of, is_at_limit}
+use Rattle.bd_space.specs.declared.step.Step.{Step}
+use Rattle.bd_space.specs.Histories.{History, history_of, is_at_limit, space_after}
+use Rattle.bd_space.specs.Steps as steps
+use Rattle.bd_spelling.specs.Spelling.{IsStep, IsBlock, step_bytes}
 use Rattle.bd_engine.specs.Refusals.{FullOnly}
+use Rattle.bd_engine.specs.Follows.{Follows, FollowsShort}
 use Rattle.bd_engine.proofs.Keeping.{follows_entered, full_at_length, limit_at_end, short_of_full}
 use Rattle.bd_step.proofs.Refusals.{full_as}
 use Rattle.bd_engine.proofs.wide.WideEngine.step_in_place.Goals as goal
+
+of_ok : {T E P : Type 0} (r : Result T E) → is_err r ≡ false → OnOk r P → P
+of_ok (Ok x) is h = h
+of_ok (Err e) is h = absurd (cc)
+
+pub push-requires-clause-spelled : goal.push-requires-clause-spelled
+push-requires-clause-spelled c =
+    let made = c.in-Ok.ensures in
+    let spelled = of_ok c.begin.result (sym c.is_err.ensures.value ∙ c.if-is_err.false) c.begin.ensures.spelled in
+    let few = c.self.invariant.follows.few in
+    let alike = c.self.invariant.follows.seats_are in
+    let seat = c.requires.seat in
+    let view = ap (λ (z : History). z.seats) c.self.view_is in
+    record {
+      seat = omega (arith, few, alike, seat, view, made.seat);
+      step = subst IsStep (sym made.step) spelled.0;
+      step_block = subst (λ (z : Step). IsBlock (step_bytes z)) (sym made.step) spelled.1;
+      answer = made.kept.0;
+      answer_block = made.kept.1;
+    }
+
+pub push-requires-clause-room : goal.push-requires-clause-room
+push-requires-clause-room c =
+    let made = c.in-Ok.ensures in
+    let step = ap (λ rest. rest.1) made.rest in
+    let len = of_ok c.begin.result (sym c.is_err.ensures.value ∙ c.if-is_err.false) c.begin.ensures.len in
+    let same = ap (λ (z : Step). length (step_bytes z)) made.step in
+    let room = made.kept.2 in
+    grind (arith, step, len, same, room, length-append)
+
+pub invariant_of-self-in-Err : goal.invariant_of-self-in-Err
+invariant_of-self-in-Err c =
+    let made = c.in-Err.ensures in
+    let es = c.self.inside.entries.log.entries in
+    let h = history_of c.self.inside.live.seats es in
+    let kept : c.make.new.keep.log.entries ≡ es = ap (λ rest. rest.0) made.rest ∙ c.begin.ensures.entries in
+    subst (λ (z : History). FollowsShort c.make.new.self z) (ap (λ l. history_of c.make.new.self.seats l) (sym kept)) (record {
+      follows = subst (λ n. Follows c.make.new.self (history_of n es)) (sym made.seats) (made.err h c.self.invariant.follows);
+      short = c.self.invariant.short;
+    })
+
+pub returns-in-Ok-clause-answer : goal.returns-in-Ok-clause-answer
+returns-in-Ok-clause-answer c =
+    let h = history_of c.self.inside.live.seats c.self.inside.entries.log.entries in
+    subst (λ (z : History). c.make.new.entry.answer ≡ (steps.step (space_after z) c.args.entry.now.seat c.args.entry.now.step).answer) c.self.view_is
+    (c.in-Ok.ensures.answer h c.self.invariant.follows)
 
 pub returns-then-is_full-clause-full : goal.returns-then-is_full-clause-full
 returns-then-is_full-clause-full c = full_at_length _ _ _ (sym c.is_full.ensures ∙ c.if-is_full.true)

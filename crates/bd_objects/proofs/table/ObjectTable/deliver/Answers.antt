@@ -1,14 +1,15 @@
-use Rattle.std.proofs.Common.{◌∙◌, ◌++◌, map, fold, sym, ap, subst}
+use Rattle.std.proofs.Common.{◌+◌, length, ◌∙◌, ◌++◌, map, fold, sym, ap, subst, arith}
 use Rattle.bd_space.specs.Names.{assign_numbers, names_go}
 use Rattle.bd_space.specs.Parcels.{object_of_item}
 use Rattle.bd_space.specs.Delivery.{make_objects, refer, buffer_references}
-use Rattle.bd_holds.specs.Stands.{ReferencesAre}
-use Rattle.bd_handles.specs.Stands.{NamesAre}
+use Rattle.bd_records.specs.{Records.{RecordsAre}, Since.{Settled}}
 use Rattle.bd_objects.specs.Naming.{with_other_name}
 use Rattle.bd_objects.specs.Numbers.{IsPastLimit}
-use Rattle.bd_objects.proofs.Giving.{same_names}
+use Rattle.bd_objects.proofs.Giving.{same_names, given_ready}
 use Rattle.bd_objects.proofs.Referring.{referred_carried}
 use Rattle.bd_objects.proofs.Results.{on_err}
+use Rattle.bd_objects.specs.Room.{rooms}
+use Rattle.bd_objects.proofs.Spent.{then_uses}
 use Rattle.bd_objects.proofs.table.ObjectTable.deliver.Goals as goal
 
 pub returns-clause-ok : goal.returns-clause-ok
@@ -19,14 +20,16 @@ returns-clause-ok c = λ s h m.
     let objects = s.objects ++ c.args.made.now in
     let refs = s.references ++ buffer_references s.steps q 0 items c.args.target in
     let os = map object_of_item items in
+    let names = fold (with_other_name c.args.manager objects q) s.names os in
+    let named = c.push_all.ensures.settled names (c.in_ok-give_names.ensures.names s.objects s.references s.names h.records_are h.names_are) in
+    let there = c.push_all.ensures.stands s.objects s.references m.makes.new (c.give_names.ensures.stands s.objects s.references s.names h.names_are h.records_are) in
     record {
-      objects_are = c.push_all.ensures.stands s.objects h.objects_are m.new;
-      references_are = subst (λ n. ReferencesAre c.add_references.new.references (s.references ++ buffer_references n q 0 items c.args.target)) (sym m.at)
-          (c.add_references.ensures.stands s.references h.references_are);
-      names_are = subst (λ ns. NamesAre c.give_names.new.names ns)
-          (ap (λ k. fold (with_other_name k objects q) s.names os) (sym m.manages)
+      records_are = subst (λ n. RecordsAre c.add_references.new.records objects (s.references ++ buffer_references n q 0 items c.args.target)) (sym m.makes.at)
+          (c.add_references.ensures.stands objects s.references names there named (given_ready c.args.manager objects q items s.names m.carried) m.aimed);
+      names_are = subst (Settled c.add_references.new.records)
+          (ap (λ k. fold (with_other_name k objects q) s.names os) (sym m.makes.manages)
           ∙ same_names s.manager objects q refs os s.names (referred_carried s.steps q c.args.target s.references items))
-          (c.in_ok-give_names.ensures.ok s.objects s.names h.objects_are h.names_are);
+          (c.add_references.ensures.names names named);
       deaths_are = h.deaths_are;
     }
 
@@ -41,4 +44,49 @@ returns-in_err-give_names-clause-full c = on_err c.from_residual.result (λ s h 
     let referred = referred_carried s.steps q c.args.target s.references items in
     subst (λ ns. IsPastLimit objects refs ns)
     (ap (λ k. fold (with_other_name k objects q) s.names os) (sym at.1) ∙ same_names s.manager objects q refs os s.names referred)
-    (c.in_err-give_names.ensures.full s.objects refs s.names h.objects_are referred h.names_are))
+    (c.in_err-give_names.ensures.full s.objects s.references refs s.names h.records_are referred h.names_are))
+
+pub returns-in_err-give_names-clause-err : goal.returns-in_err-give_names-clause-err
+returns-in_err-give_names-clause-err c = on_err c.from_residual.result (λ s h. record {
+  records_are = c.give_names.ensures.stands s.objects s.references s.names h.names_are h.records_are;
+  names_are = c.in_err-give_names.ensures.err s.objects s.references s.names h.records_are h.names_are;
+  deaths_are = h.deaths_are;
+})
+
+pub invariant_of-self-2 : goal.invariant_of-self-2
+invariant_of-self-2 c =
+    let old = c.args.self.now in
+    let named = c.give_names.ensures.uses in
+    let made = c.push_all.ensures.uses in
+    let held = c.add_references.ensures.uses in
+    record {
+      objects_fit = omega (arith, c.saturating_sub-self.ensures, c.max.ensures, old.objects_fit, named.objects_fit, made.objects_fit, held.objects_fit);
+      references_fit = omega (arith, c.saturating_sub-self.ensures, c.max.ensures, old.references_fit, named.references_fit, made.references_fit, held.references_fit);
+      names_fit = omega (arith, c.saturating_sub-self-2.ensures, old.names_fit, named.names_fit old.named, made.names_fit old.named, held.names_fit old.named);
+      deaths_fit = omega (arith, c.saturating_sub-self.ensures, c.max.ensures, old.deaths_fit);
+    }
+
+pub invariant_of-self : goal.invariant_of-self
+invariant_of-self c =
+    let old = c.args.self.now in
+    let named = c.give_names.ensures.uses in
+    record {
+      objects_fit = omega (arith, c.saturating_sub-self.ensures, old.objects_fit, named.objects_fit);
+      references_fit = omega (arith, c.saturating_sub-self.ensures, old.references_fit, named.references_fit);
+      names_fit = omega (arith, c.saturating_sub-self-2.ensures, old.names_fit, named.names_fit old.named);
+      deaths_fit = omega (arith, c.saturating_sub-self.ensures, old.deaths_fit);
+    }
+
+pub returns-clause-uses : goal.returns-clause-uses
+unfolding rooms
+returns-clause-uses c =
+    let many = length c.args.items.now in
+    let given = then_uses _ _ _ 0 0 many (length c.args.made.now) 0 0 c.give_names.ensures.uses c.push_all.ensures.uses in
+    let used = then_uses _ _ _ (0 + length c.args.made.now) 0 (many + 0) 0 (many + 1) 0 given c.add_references.ensures.uses in
+    record {
+      objects_fit = omega (arith, used.objects_fit);
+      references_fit = omega (arith, used.references_fit);
+      names_fit = λ p. omega (arith, used.names_fit p);
+      deaths_fit = omega arith;
+      deaths_count = omega arith;
+    }

@@ -7,9 +7,8 @@ use Rattle.bd_objects.proofs.table.ObjectTable.remove_unnamed_deaths.Goals as go
 pub returns-clause-stands : goal.returns-clause-stands
 unfolding deaths_go_of
 returns-clause-stands c = λ s h. record {
-  objects_are = h.objects_are;
-  references_are = h.references_are;
+  records_are = h.records_are;
   names_are = h.names_are;
   deaths_are = subst (λ xs. DeathsAre c.remove_unnamed.new.self xs)
-      (sym (filtered_at s.names c.args.p c.args.o _ (c.has.ensures s.names s.names h.names_are) s.deaths)) (c.remove_unnamed.ensures.stands s.deaths h.deaths_are);
+      (sym (filtered_at s.names c.args.p c.args.o _ (c.has_name-named.ensures s h) s.deaths)) (c.remove_unnamed.ensures.stands s.deaths h.deaths_are);
 }

@@ -4,8 +4,8 @@ use Rattle.bd_space.specs.declared.space.Object.{Object}
 use Rattle.bd_space.specs.Words.{same}
 use Rattle.bd_space.specs.References.{object_in, stays_in}
 use Rattle.bd_ways.specs.Local.{objects_go_of}
-use Rattle.bd_nodes.specs.Stands.{NodesAre}
-use Rattle.bd_nodes.proofs.Apart.{apart_some, apart_none}
+use Rattle.bd_records.specs.Records.{RecordsAre}
+use Rattle.bd_objects.proofs.Apart.{apart_some, apart_none, unheld}
 use Rattle.bd_objects.specs.Telling.{owner_due}
 use Rattle.bd_objects.proofs.table.ObjectTable.remove_unused_object.Goals as goal
 
@@ -22,9 +22,8 @@ none_left o (x ∷ xs) = at (same x.id o) refl (none_left o xs)
 pub returns-in_err-x-clause-stands : goal.returns-in_err-x-clause-stands
 unfolding objects_go_of
 returns-in_err-x-clause-stands c = λ s h p. record {
-  objects_are = subst (NodesAre c.args.self.now.nodes)
-      (sym (apart_none s.objects c.args.o (stays_in s.processes s.references) (sym (c.in_err-x.ensures s.objects h.objects_are)))) h.objects_are;
-  references_are = h.references_are;
+  records_are = subst (λ xs. RecordsAre c.args.self.now.records xs s.references)
+      (sym (apart_none s.objects c.args.o (stays_in s.processes s.references) (sym (c.in_err-x.ensures s.objects s.references h.records_are)))) h.records_are;
   names_are = h.names_are;
   deaths_are = h.deaths_are;
 }
@@ -32,7 +31,7 @@ returns-in_err-x-clause-stands c = λ s h p. record {
 pub returns-in_err-x-clause-owner : goal.returns-in_err-x-clause-owner
 unfolding objects_go_of
 returns-in_err-x-clause-owner c = λ s h p.
-    let none = sym (c.in_err-x.ensures s.objects h.objects_are) in
+    let none = sym (c.in_err-x.ensures s.objects s.references h.records_are) in
     let same_objects = apart_none s.objects c.args.o (stays_in s.processes s.references) none in
     c.from_residual.ensures ∙ sym (ap (λ (xs : List Object). owner_due s (object_in xs c.args.o)) same_objects ∙ ap (owner_due s) none)
 
@@ -40,13 +39,12 @@ pub returns-then-not-stays-clause-stands : goal.returns-then-not-stays-clause-st
 unfolding objects_go_of
 returns-then-not-stays-clause-stands c = λ s h p.
     let goes : stays_in s.processes s.references c.in_ok-x.x ≡ false =
-    rw (sym (c.hold-hold.ensures.held s.references h.references_are)) (rw (sym (c.lives-lives.ensures s.processes p)) (sym c.stays.ensures ∙ c.if-not-stays.true)) in
+    rw (sym (c.hold-hold.ensures.held s.objects s.references h.records_are)) (rw (sym (c.lives-lives.ensures s.processes p)) (sym c.stays.ensures ∙ c.if-not-stays.true)) in
     record {
-      objects_are = subst (NodesAre c.remove.new.self)
-          (sym (apart_some c.args.self.now.nodes s.objects c.args.o c.in_ok-x.x (stays_in s.processes s.references) h.objects_are (sym (c.in_ok-x.ensures s.objects h.objects_are)) ∙ rw goes refl))
-          (c.remove.ensures.stands s.objects h.objects_are);
-      references_are = h.references_are;
-      names_are = h.names_are;
+      records_are = subst (λ xs. RecordsAre c.remove_object.new.self xs s.references)
+          (sym (apart_some c.args.self.now.records s.objects s.references c.args.o c.in_ok-x.x (stays_in s.processes s.references) h.records_are (sym (c.in_ok-x.ensures s.objects s.references h.records_are)) ∙ rw goes refl))
+          (c.remove_object.ensures.stands s.objects s.references (unheld s.objects s.references c.args.o c.in_ok-x.x _ _ _ (sym (c.in_ok-x.ensures s.objects s.references h.records_are)) (c.hold-hold.ensures.held s.objects s.references h.records_are) c.stays.ensures c.if-not-stays.true) h.records_are);
+      names_are = c.remove_object.ensures.settled s.names h.names_are;
       deaths_are = h.deaths_are;
     }
 
@@ -54,20 +52,19 @@ pub returns-then-not-stays-clause-owner : goal.returns-then-not-stays-clause-own
 unfolding objects_go_of
 returns-then-not-stays-clause-owner c = λ s h p.
     let goes : stays_in s.processes s.references c.in_ok-x.x ≡ false =
-    rw (sym (c.hold-hold.ensures.held s.references h.references_are)) (rw (sym (c.lives-lives.ensures s.processes p)) (sym c.stays.ensures ∙ c.if-not-stays.true)) in
-    let left = apart_some c.args.self.now.nodes s.objects c.args.o c.in_ok-x.x (stays_in s.processes s.references) h.objects_are (sym (c.in_ok-x.ensures s.objects h.objects_are)) ∙ rw goes refl in
+    rw (sym (c.hold-hold.ensures.held s.objects s.references h.records_are)) (rw (sym (c.lives-lives.ensures s.processes p)) (sym c.stays.ensures ∙ c.if-not-stays.true)) in
+    let left = apart_some c.args.self.now.records s.objects s.references c.args.o c.in_ok-x.x (stays_in s.processes s.references) h.records_are (sym (c.in_ok-x.ensures s.objects s.references h.records_are)) ∙ rw goes refl in
     sym (ap (λ (xs : List Object). owner_due s (object_in xs c.args.o)) left ∙ ap (owner_due s) (none_left c.args.o s.objects))
 
 pub returns-clause-stands : goal.returns-clause-stands
 unfolding objects_go_of
 returns-clause-stands c = λ s h p.
     let stays : stays_in s.processes s.references c.in_ok-x.x ≡ true =
-    rw (sym (c.hold-hold.ensures.held s.references h.references_are)) (rw (sym (c.lives-lives.ensures s.processes p)) (sym c.stays.ensures ∙ c.if-not-stays.false)) in
+    rw (sym (c.hold-hold.ensures.held s.objects s.references h.records_are)) (rw (sym (c.lives-lives.ensures s.processes p)) (sym c.stays.ensures ∙ c.if-not-stays.false)) in
     record {
-      objects_are = subst (NodesAre c.args.self.now.nodes)
-          (sym (apart_some c.args.self.now.nodes s.objects c.args.o c.in_ok-x.x (stays_in s.processes s.references) h.objects_are (sym (c.in_ok-x.ensures s.objects h.objects_are)) ∙ rw stays refl))
-          h.objects_are;
-      references_are = h.references_are;
+      records_are = subst (λ xs. RecordsAre c.args.self.now.records xs s.references)
+          (sym (apart_some c.args.self.now.records s.objects s.references c.args.o c.in_ok-x.x (stays_in s.processes s.references) h.records_are (sym (c.in_ok-x.ensures s.objects s.references h.records_are)) ∙ rw stays refl))
+          h.records_are;
       names_are = h.names_are;
       deaths_are = h.deaths_are;
     }
@@ -75,11 +72,11 @@ returns-clause-stands c = λ s h p.
 pub returns-clause-owner : goal.returns-clause-owner
 unfolding objects_go_of
 returns-clause-owner c = λ s h p.
-    let held = c.hold-hold.ensures.held s.references h.references_are in
-    let strong = c.hold-hold.ensures.strong s.references h.references_are in
+    let held = c.hold-hold.ensures.held s.objects s.references h.records_are in
+    let strong = c.hold-hold.ensures.strong s.objects s.references h.records_are in
     let lives = c.lives-lives.ensures s.processes p in
-    let found = sym (c.in_ok-x.ensures s.objects h.objects_are) in
+    let found = sym (c.in_ok-x.ensures s.objects s.references h.records_are) in
     let stays : stays_in s.processes s.references c.in_ok-x.x ≡ true = rw (sym held) (rw (sym lives) (sym c.stays.ensures ∙ c.if-not-stays.false)) in
-    let left = apart_some c.args.self.now.nodes s.objects c.args.o c.in_ok-x.x (stays_in s.processes s.references) h.objects_are found ∙ rw stays refl in
+    let left = apart_some c.args.self.now.records s.objects s.references c.args.o c.in_ok-x.x (stays_in s.processes s.references) h.records_are found ∙ rw stays refl in
     let due : owner_due s (object_in s.objects c.args.o) ≡ c.owner_to_tell.result = ap (owner_due s) found ∙ rw (sym held) (rw (sym strong) (rw (sym lives) (sym c.owner_to_tell.ensures))) in
     sym (ap (λ (xs : List Object). owner_due s (object_in xs c.args.o)) left ∙ due)

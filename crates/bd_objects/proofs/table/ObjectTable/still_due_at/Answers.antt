@@ -22,6 +22,6 @@ returns-else-not-is_on c = λ s h.
     let is : list_any (λ x. made x && at x) s.deaths ≡ true =
     sym (c.is_on.ensures s.deaths h.deaths_are) ∙ c.if-not-is_on.false in
     let stays : c.stays.result ≡ list_any made (filter (λ x. not (at x) || (x.cleared || is_name_of s.names x.process x.object)) s.deaths) =
-    c.stays.ensures s.deaths h.deaths_are ∙ ap (list_any made) (sym (filtered_at s.names c.args.p c.args.o _ (c.has.ensures s.names s.names h.names_are) s.deaths)) in
+    c.stays.ensures s.deaths h.deaths_are ∙ ap (list_any made) (sym (filtered_at s.names c.args.p c.args.o _ (c.has_name.ensures s h) s.deaths)) in
     subst (λ k. c.stays.result ≡ (not (is_touched (at_name c.args.p c.args.o) (λ i. false) s.deaths k)
     || still_due s.processes s.objects s.references (deaths_go_of (at_name c.args.p c.args.o) s).deaths k)) (sym c.in-Death.is) (rw is stays)

@@ -1,19 +1,25 @@
 use Rattle.std.proofs.lemmas.Bool.{or_left, or_right}
+use Rattle.std.specs.Prelude.{◌==◌}
+use Rattle.bd_space.specs.declared.space.Object.{Object}
 use Rattle.bd_objects.proofs.Covering.{has_dropped, only_dropped, any_dropped}
+use Rattle.bd_objects.proofs.Ending.{some_pass, same_all, all_same}
 use Rattle.bd_objects.proofs.Results.{on_err, then_ok, then_err}
 use Rattle.bd_objects.proofs.table.ObjectTable.touched_by_end.Goals as goal
 
 pub returns-clause-all : goal.returns-clause-all
 returns-clause-all c = then_ok c.dropped_with_process.result
-    (λ f s h. has_dropped c.args.p s.objects s.references _ _ _ (c.in_ok-owned_by.ensures.all s.objects h.objects_are) (f s.references h.references_are)) c.dropped_with_process.ensures.all
+    (λ f s h. has_dropped c.args.p s.objects s.references _ _ _ (same_all _ _ (c.in_ok-owned_by.ensures.pushed s.objects s.references h.records_are)) (f s.objects s.references h.records_are))
+    c.dropped_with_process.ensures.all
 
 pub returns-clause-only : goal.returns-clause-only
 returns-clause-only c = then_ok c.dropped_with_process.result
-    (λ f s h. only_dropped c.args.p s.objects s.references _ _ _ (c.in_ok-owned_by.ensures.only s.objects h.objects_are) (f s.references h.references_are)) c.dropped_with_process.ensures.only
+    (λ f s h. only_dropped c.args.p s.objects s.references _ _ _ (all_same _ _ (c.in_ok-owned_by.ensures.pushed s.objects s.references h.records_are)) (f s.objects s.references h.records_are))
+    c.dropped_with_process.ensures.only
 
 pub returns-in_err-owned_by-clause-grown : goal.returns-in_err-owned_by-clause-grown
-returns-in_err-owned_by-clause-grown c = on_err c.from_residual.result (λ s h. or_left _ _ (c.in_err-owned_by.ensures.grown s.objects h.objects_are))
+returns-in_err-owned_by-clause-grown c = on_err c.from_residual.result
+    (λ s h. or_left _ _ (some_pass (λ (x : Object). x.owner == c.args.p) s.objects (c.in_err-owned_by.ensures.grown s.objects s.references h.records_are)))
 
 pub returns-clause-grown : goal.returns-clause-grown
 returns-clause-grown c = then_err c.dropped_with_process.result
-    (λ f s h. or_right _ _ (any_dropped c.args.p s.objects s.references (f s.references h.references_are))) c.dropped_with_process.ensures.grown
+    (λ f s h. or_right _ _ (any_dropped c.args.p s.objects s.references (f s.objects s.references h.records_are))) c.dropped_with_process.ensures.grown

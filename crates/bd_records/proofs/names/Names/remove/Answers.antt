@@ -2,7 +2,7 @@ use Rattle.std.proofs.Common.{◌≡◌, ◌≤◌, ℕ, ◌==◌, Bool, true, f
 use Rattle.std.specs.Prelude.{option_map}
 use Rattle.bd_ways.specs.Words.{Identity, same}
 use Rattle.bd_numbered.specs.Numbered.{value_at}
-use Rattle.bd_handles.specs.Keys.{number_at}
+use Rattle.bd_records.specs.NumberKeys.{number_at}
 use Rattle.bd_records.specs.{NameRows.{object_of}, Slots.{on_slot}}
 use Rattle.bd_records.proofs.Naming.{by_process, own_process}
 use Rattle.bd_records.proofs.Keyed.{gone_found, gone_leads, gone_at, AreFound, Lead}

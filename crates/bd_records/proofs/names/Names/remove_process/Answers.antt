@@ -1,5 +1,5 @@
 use Rattle.bd_numbered.specs.Numbered.{value_at}
-use Rattle.bd_handles.specs.Keys.{number_at}
+use Rattle.bd_records.specs.NumberKeys.{number_at}
 use Rattle.bd_records.proofs.Stepping.{ended_numbers, ended_named, ended_names, ended_found, ended_leads, ended_small}
 use Rattle.bd_records.proofs.names.Names.remove_process.Goals as goal
 

@@ -2,7 +2,7 @@ use Rattle.std.proofs.Common.{◌≡◌, ◌==◌, cond, ◌&&◌, None, sym, re
 use Rattle.std.specs.Prelude.{option_map}
 use Rattle.bd_ways.specs.Words.{Identity, same}
 use Rattle.bd_numbered.specs.Numbered.{value_at}
-use Rattle.bd_handles.specs.Keys.{number_at}
+use Rattle.bd_records.specs.NumberKeys.{number_at}
 use Rattle.bd_records.specs.{NameRows.{object_of}, Slots.{on_slot}}
 use Rattle.bd_records.proofs.Naming.{by_process, own_process, written, shown_some, same_slots}
 use Rattle.bd_records.proofs.Keyed.{set_found, set_leads, set_at, AreFound, Lead}

@@ -7,9 +7,9 @@ use Rattle.bd_keys.proofs.Keys.{word_eq, word_self}
 use Rattle.bd_space.specs.Words.{same}
 use Rattle.bd_space.proofs.Identities.{same_eq, same_self}
 use Rattle.bd_chains.specs.Rows.{Row}
-use Rattle.bd_nodes.specs.Keys.{id_key, own_key}
-use Rattle.bd_nodes.proofs.Distinct.{push_distinct}
-use Rattle.bd_nodes.proofs.Maps.{finds_push}
+use Rattle.bd_records.specs.ObjectKeys.{id_key, own_key}
+use Rattle.bd_records.proofs.Distinct.{push_distinct}
+use Rattle.bd_records.proofs.Maps.{finds_push}
 use Rattle.bd_records.specs.declared.{owned.Spot.{Spot}, owned.Possession.{Possession}}
 use Rattle.bd_records.specs.Owned.{possession, owner_of, id_at}
 use Rattle.bd_records.proofs.Possessing.{map_cond, values_more, possessions_more, spots_more}

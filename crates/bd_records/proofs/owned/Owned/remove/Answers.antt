@@ -8,11 +8,11 @@ use Rattle.bd_space.specs.declared.space.Object.{Object}
 use Rattle.bd_space.specs.Words.{same}
 use Rattle.bd_chains.specs.Rows.{values, drop_key}
 use Rattle.bd_chains.proofs.Listing.{dropped_shows}
-use Rattle.bd_nodes.specs.Keys.{id_key, own_key}
-use Rattle.bd_nodes.specs.Stands.{AreDistinct}
-use Rattle.bd_nodes.proofs.Changes.{only_own}
-use Rattle.bd_nodes.proofs.Distinct.{filter_distinct}
-use Rattle.bd_nodes.proofs.Maps.{finds_remove}
+use Rattle.bd_records.specs.ObjectKeys.{id_key, own_key}
+use Rattle.bd_records.specs.Maps.{AreDistinct}
+use Rattle.bd_records.proofs.Changes.{only_own}
+use Rattle.bd_records.proofs.Distinct.{filter_distinct}
+use Rattle.bd_records.proofs.Maps.{finds_remove}
 use Rattle.bd_records.specs.declared.{owned.Spot.{Spot}, owned.Possession.{Possession}}
 use Rattle.bd_records.specs.Owned.{owner_of, same_owner, list_of, id_at}
 use Rattle.bd_records.proofs.Possessing.{id_of, map_cond, values_less, possessions_less, possessions_apart, spot_is, spots_less}

@@ -1,7 +1,7 @@
 use Rattle.std.proofs.Common.{◌≡◌, List, ◌++◌, Some, None, is_some, cond, sym, ap, ◌∙◌, subst, arith}
 use Rattle.bd_ways.specs.Words.{Name}
 use Rattle.bd_numbered.specs.Numbered.{value_at}
-use Rattle.bd_handles.proofs.Given.{new_name, one_given}
+use Rattle.bd_records.proofs.GivenNames.{new_name, one_given}
 use Rattle.bd_records.specs.{Counting.{asked_of, carried_of}, Names.{name_at, number_of}, Objects.{row_at}, NameRows.{object_of, new_row}, Slots.{on_slot}, Since.{IsBlank, AreBlank}}
 use Rattle.bd_records.proofs.{Naming.{shown_some}, Asked.{counts_named}, Given.{given_number, since_had, all_put, blank_more, here}}
 use Rattle.bd_records.proofs.records.Records.give_name.Goals as goal

@@ -1,7 +1,7 @@
 use Rattle.std.proofs.Common.{◌∙◌, sym, ap}
 use Rattle.std.specs.Prelude.{option_map}
 use Rattle.bd_keys.specs.declared.key.WordKey.{WordKey}
-use Rattle.bd_nodes.proofs.Changes.{by_own}
+use Rattle.bd_records.proofs.Changes.{by_own}
 use Rattle.bd_records.proofs.Coming.{object_of}
 use Rattle.bd_records.proofs.records.Records.own_with_ptr.Goals as goal
 

@@ -1,7 +1,8 @@
-use Rattle.std.proofs.Common.{refl, ◌≡◌, false, find, Some, is_some, sym, ap, ◌∙◌, subst, arith}
+use Rattle.std.proofs.Common.{refl, ◌≡◌, false, find, Option, Some, None, is_some, sym, ap, ◌∙◌, subst, arith}
 use Rattle.std.specs.List.{list_any}
+use Rattle.std.specs.Prelude.{option_map, unwrap_or}
 use Rattle.bd_ways.specs.Words.{Reference, without_first}
-use Rattle.bd_space.specs.References.{is_in_window}
+use Rattle.bd_space.specs.References.{is_in_window, buffer_of_holder}
 use Rattle.bd_records.specs.{Objects.{row_at}, Names.{name_at}, Counted.{CountsAre}}
 use Rattle.bd_records.proofs.Tallies.{counts_less, count_first, on}
 use Rattle.bd_records.proofs.Lists.{first_shorter, none_first, found_some}
@@ -57,3 +58,15 @@ returns-in-Some-clause-names c = names_kept c.args.self.now.names c.turn.new.nam
 
 pub returns-in-Some-clause-settled : goal.returns-in-Some-clause-settled
 returns-in-Some-clause-settled c = settled_kept c.args.self.now _ (names_kept c.args.self.now.names c.turn.new.names c.turn.ensures.named c.turn.ensures.numbers) refl
+
+pub returns-in-Some-clause-gone : goal.returns-in-Some-clause-gone
+returns-in-Some-clause-gone c = λ objects l r b h first at none.
+    let test = (λ (x : Reference). is_in_window c.args.p x.holder) in
+    let same : Some c.in-Some.r ≡ Some r = sym c.in-Some.is ∙ c.pop_in_window.ensures.first l h.held ∙ first in
+    let lay = subst (λ (o : Option Reference). option_map (λ (x : Reference). buffer_of_holder x.holder) o ≡ Some (Some b)) (sym same) (ap Some at) in
+    c.close_of.ensures.gone b (without_first test l) (ap (λ o. unwrap_or o None) lay) (c.pop_in_window.ensures.stands l h.held) none
+
+pub returns-in-None-clause-gone : goal.returns-in-None-clause-gone
+returns-in-None-clause-gone c = λ objects l r b h first at none.
+    let same = sym c.in-None.is ∙ c.pop_in_window.ensures.first l h.held ∙ first in
+    absurd cc

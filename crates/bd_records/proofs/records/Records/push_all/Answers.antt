@@ -1,7 +1,7 @@
 use Rattle.std.proofs.Common.{◌≡◌, ℕ, ◌+◌, ◌<◌, List, [], ◌∷◌, ◌++◌, length, get_or, take, drop, sym, ap, ◌∙◌, subst, append_assoc, arith}
 use Rattle.std.proofs.lemmas.List.{take_more, take_all, drop_more}
 use Rattle.bd_space.specs.declared.space.Object.{Object}
-use Rattle.bd_nodes.specs.New.{IsNewIn, AreNewIn}
+use Rattle.bd_records.specs.New.{IsNewIn, AreNewIn}
 use Rattle.bd_records.specs.Records.{RecordsAre}
 use Rattle.bd_records.proofs.records.Records.push_all.Goals as goal
 

@@ -1,6 +1,6 @@
 use Rattle.std.proofs.Common.{◌++◌, List, take, drop}
 use Rattle.bd_space.specs.declared.space.{Object.{Object}, Reference.{Reference}}
-use Rattle.bd_nodes.specs.New.{AreNewIn}
+use Rattle.bd_records.specs.New.{AreNewIn}
 use Rattle.bd_records.specs.{Records.{RecordsAre}, Room.{Uses}, Since.{KeepsSettled}}
 use Rattle.bd_records.proofs.records.Records.push_all.Given as goal
 

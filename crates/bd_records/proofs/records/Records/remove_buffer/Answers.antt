@@ -1,5 +1,6 @@
 use Rattle.std.proofs.Common.{refl, arith}
-use Rattle.bd_records.proofs.Given.{settled_kept}
+use Rattle.bd_space.specs.References.{is_of_buffer}
+use Rattle.bd_records.proofs.{Lists.{none_left}, Given.{settled_kept}}
 use Rattle.bd_records.proofs.records.Records.remove_buffer.Goals as goal
 
 pub returns-clause-settled : goal.returns-clause-settled
@@ -13,3 +14,8 @@ returns-clause-uses c =
       references_fit = omega (arith, a.references_fit, c.close.ensures.uses);
       names_fit = a.names_fit;
     }
+
+pub returns-clause-gone : goal.returns-clause-gone
+returns-clause-gone c = λ objects l h.
+    let left = c.remove_each.ensures.stands objects l h in
+    c.close.ensures.gone _ left.held (none_left (λ r. is_of_buffer c.args.b r.holder) l)

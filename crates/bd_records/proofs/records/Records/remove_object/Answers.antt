@@ -2,8 +2,8 @@ use Rattle.std.proofs.Common.{◌≡◌, None, Some, not, filter, sym, ap, ◌�
 use Rattle.std.specs.Prelude.{option_map}
 use Rattle.bd_ways.specs.Words.{Object, same}
 use Rattle.bd_space.specs.References.{object_in}
-use Rattle.bd_nodes.specs.Keys.{id_key}
-use Rattle.bd_nodes.proofs.Distinct.{away_none}
+use Rattle.bd_records.specs.ObjectKeys.{id_key}
+use Rattle.bd_records.proofs.Distinct.{away_none}
 use Rattle.bd_records.specs.{Objects.{row_at}, Names.{name_at}, Owned.{OwnedAre}, Records.{RecordsAre}}
 use Rattle.bd_records.proofs.Coming.{object_of, went_objects, went_owners, went_counts}
 use Rattle.bd_records.proofs.records.Records.remove_object.Goals as goal

@@ -1,7 +1,7 @@
-use Rattle.std.proofs.Common.{◌≡◌, Bool, true, false, not, ◌&&◌, ◌||◌, refl, subst, arith}
+use Rattle.std.proofs.Common.{◌≡◌, Bool, true, false, not, filter, ◌&&◌, ◌||◌, refl, subst, arith}
 use Rattle.bd_space.specs.References.{is_asked_by, is_in_window}
 use Rattle.bd_records.specs.Records.{RecordsAre}
-use Rattle.bd_records.proofs.{Lists.{both_filters}, Given.{settled_kept}}
+use Rattle.bd_records.proofs.{Lists.{both_filters, none_left}, Given.{settled_kept}}
 use Rattle.bd_records.proofs.records.Records.remove_with_process.Goals as goal
 
 neither : (a b : Bool) → (not a && not b) ≡ not (a || b)
@@ -35,3 +35,9 @@ returns-clause-uses c =
       references_fit = omega (arith, a.references_fit, b.references_fit, c.close_window.ensures.uses);
       names_fit = λ q. omega (arith, a.names_fit q, b.names_fit q);
     }
+
+pub returns-clause-gone : goal.returns-clause-gone
+returns-clause-gone c = λ objects l h.
+    let p = c.args.p in
+    let left = c.remove_each_in_window.ensures.stands objects _ (c.drop_each_asked.ensures.stands objects l h) in
+    c.close_window.ensures.gone _ left.held (none_left (λ r. is_in_window p r.holder) (filter (λ r. not (is_asked_by p r.holder)) l))

@@ -11,4 +11,4 @@ returns-in-Err-clause-step c = taken_step _ _ _ _ _ (
 pub returns-clause-step : goal.returns-clause-step
 returns-clause-step c = taken_step _ _ _ _ _ (
     checked_accepts _ _ (λ s x. acknowledge s x.id c.args.strong) (λ s. done_check s c.args.actor.process.made c.args.ptr c.args.cookie c.args.strong) _
-    (λ s h. c.in-Ok.ensures s h.objects_stand) _ _ c.reserve.ensures.stands (λ s h by. c.release_handshake.ensures.stands s h by.tidy))
+    (λ s h. c.in-Ok.ensures s h.objects_stand) _ _ c.reserve.ensures.stands (λ s before by h. c.release_handshake.ensures.stands s h by.tidy))

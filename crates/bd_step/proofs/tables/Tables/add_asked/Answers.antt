@@ -6,16 +6,18 @@ use Rattle.bd_laws.proofs.Others.{ask_local}
 use Rattle.bd_step.specs.Stands.{Within}
 use Rattle.bd_step.proofs.Standing.{numbers_completed}
 use Rattle.bd_step.proofs.Changing.{with_objects}
+use Rattle.bd_step.proofs.New.{asks_for}
 use Rattle.bd_step.proofs.FollowingObjects.{among_one}
 use Rattle.bd_step.proofs.tables.Tables.add_asked.Goals as goal
 
 pub returns-in-Ok-clause-stands : goal.returns-in-Ok-clause-stands
 unfolding ask assign_numbers
-returns-in-Ok-clause-stands c = λ s h tidy.
+returns-in-Ok-clause-stands c = λ s h asks.
     let z = ask s c.args.p c.args.o c.args.strong in
-    subst (Within c.follow_objects.new.self) (ap (λ b. follow_of no_name b z) (among_one c.args.o) ∙ sym (ask_local s c.args.p c.args.o c.args.strong tidy.quiet))
+    subst (Within c.follow_objects.new.self) (ap (λ b. follow_of no_name b z) (among_one c.args.o) ∙ sym (ask_local s c.args.p c.args.o c.args.strong asks.tidy.quiet))
     (c.follow_objects.ensures.stands z
-    (with_objects (s.steps + 1) c.args.self.now s _ _ _ _ _ h (c.in-Ok.ensures.ok s h.objects_stand (h.own.steps_are, h.own.manager_is))) tidy.before.objects.kept.in_order)
+    (with_objects (s.steps + 1) c.args.self.now s _ _ _ _ _ h (c.in-Ok.ensures.ok s h.objects_stand
+    (asks_for s _ _ c.args.p c.args.o c.args.strong h.own.steps_are h.own.manager_is asks))) asks.tidy.before.objects.kept.in_order)
 
 pub returns-in-Err-clause-full : goal.returns-in-Err-clause-full
 returns-in-Err-clause-full c = λ s h. numbers_completed (ask s c.args.p c.args.o c.args.strong)

@@ -5,7 +5,7 @@ use Rattle.bd_ways.specs.Local.{ObjectTest, follow_of, close_up, no_name, is_amo
 use Rattle.bd_step.specs.Stands.{Within}
 use Rattle.bd_step.proofs.Standing.{numbers_completed}
 use Rattle.bd_step.proofs.Refusals.{full_if}
-use Rattle.bd_step.proofs.Afterwards.{replied_new, replied_followed, replied_ordered}
+use Rattle.bd_step.proofs.Afterwards.{replied_sends, replied_followed, replied_ordered}
 use Rattle.bd_step.proofs.Meeting.{taken_step}
 use Rattle.bd_step.proofs.tables.Tables.answer.Goals as goal
 
@@ -28,5 +28,5 @@ returns-clause-step c = taken_step _ _ _ _ _ (
           (ap (λ (b : ObjectTest). let y : Space = follow_of no_name b z in close_up (length y.frames) f.parent y) looked
           ∙ sym (replied_followed s c.args.actor c.args.sent.now f c.args.delivery p))
           (c.close_up.ensures.stands (follow_of no_name (is_among c.as_slice.result.now) z)
-          (c.follow_objects.ensures.stands z (c.in-Ok-replied.ensures.ok s (c.in-Ok.ensures.stands s h) (replied_new s c.args.actor c.args.sent.now f c.args.delivery p)) (replied_ordered s c.args.actor c.args.sent.now f c.args.delivery p)));
+          (c.follow_objects.ensures.stands z (c.in-Ok-replied.ensures.ok s (c.in-Ok.ensures.stands s h) (replied_sends s c.args.actor c.args.sent.now f c.args.delivery p)) (replied_ordered s c.args.actor c.args.sent.now f c.args.delivery p)));
     })

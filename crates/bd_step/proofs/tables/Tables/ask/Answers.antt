@@ -1,4 +1,4 @@
-use Rattle.std.proofs.Common.{◌≡◌, true, ap, subst}
+use Rattle.std.proofs.Common.{◌≡◌, true, ap, sym, subst}
 use Rattle.bd_space.specs.Outcomes.{Outcome, by_check}
 use Rattle.bd_space.specs.Names.{has_number_past_limit}
 use Rattle.bd_space.specs.Asking.{ask_check, ask}
@@ -15,7 +15,8 @@ returns-in-Err-clause-step c = taken_step _ _ _ _ _ (
 pub returns-in-Ok-add_asked-clause-step : goal.returns-in-Ok-add_asked-clause-step
 returns-in-Ok-add_asked-clause-step c = taken_step _ _ _ _ _ (
     checked_accepts _ _ (λ s o. ask s c.args.actor.process.made o c.args.strong) (λ s. ask_check s c.args.actor.process.made c.args.n c.args.strong) _
-    (λ s h. c.in-Ok.ensures s h.objects_stand h.own.manager_is) _ _ c.reserve.ensures.stands (λ s h by. c.in-Ok-add_asked.ensures.stands s h by.tidy))
+    (λ s h. c.in-Ok.ensures s h.objects_stand h.own.manager_is) _ _ c.reserve.ensures.stands
+    (λ s before by h. c.in-Ok-add_asked.ensures.stands s h (record { tidy = by.tidy; checked = (c.args.n, sym (c.in-Ok.ensures s before.objects_stand before.own.manager_is)) })))
 
 pub returns-in-Err-add_asked-clause-step : goal.returns-in-Err-add_asked-clause-step
 returns-in-Err-add_asked-clause-step c = record {

@@ -1,18 +1,18 @@
 use Rattle.bd_space.specs.Space.{Space}
 use Rattle.bd_space.specs.Names.{names_go, has_number_past_limit}
 use Rattle.bd_space.specs.Delivery.{with_carried}
-use Rattle.std.proofs.Common.{◌≡◌, true, sym, subst}
+use Rattle.std.proofs.Common.{◌≡◌, true}
 use Rattle.std.proofs.lemmas.Result.{on_ok_weaker, on_err_weaker}
 use Rattle.bd_step.specs.Stands.{Before}
-use Rattle.bd_step.specs.Deliveries.{SendsNew}
-use Rattle.bd_nodes.specs.New.{AreNewIn}
-use Rattle.bd_step.proofs.Deliveries.{known_stands, known_full}
+use Rattle.bd_step.specs.Deliveries.{CanSend}
+use Rattle.bd_step.proofs.Deliveries.{known_delivers, known_stands, known_full}
 use Rattle.bd_step.proofs.tables.Tables.deliver_objects.Goals as goal
 
 pub returns-clause-ok : goal.returns-clause-ok
 returns-clause-ok c =
-    on_ok_weaker {Q = (s : Space) → Before c.args.self.now s → SendsNew c.args.delivery.now s → Before (record c.args.self.now { objects = c.deliver.new.self }) (with_carried s c.args.delivery.now)} c.deliver.result
-    (λ f s h new. known_stands c.args.self.now c.deliver.new.self s c.args.delivery.now _ _ _ _ c.receiver.ensures c.made.ensures c.items.ensures c.target.ensures h (f s h.objects_stand (record { at = h.own.steps_are; manages = h.own.manager_is; new = subst (AreNewIn s.objects) (sym c.made.ensures) new }))) c.deliver.ensures.ok
+    on_ok_weaker {Q = (s : Space) → Before c.args.self.now s → CanSend c.args.delivery.now s → Before (record c.args.self.now { objects = c.deliver.new.self }) (with_carried s c.args.delivery.now)} c.deliver.result
+    (λ f s h sends. known_stands c.args.self.now c.deliver.new.self s c.args.delivery.now _ _ _ _ c.receiver.ensures c.made.ensures c.items.ensures c.target.ensures h (f s h.objects_stand
+    (known_delivers s c.args.delivery.now _ _ _ _ _ c.made.ensures c.items.ensures c.target.ensures h.own.steps_are h.own.manager_is sends))) c.deliver.ensures.ok
 
 pub returns-clause-full : goal.returns-clause-full
 returns-clause-full c =

@@ -1,4 +1,6 @@
-use Rattle.bd_step.proofs.Gathering.{reply_gathered, call_gathered}
+use Rattle.std.proofs.Common.{[], ◌∷◌, sym}
+use Rattle.std.proofs.lemmas.List.{append-nil}
+use Rattle.bd_step.proofs.Gathering.{notice_gathered, reply_gathered, call_gathered, grows_by}
 use Rattle.bd_step.proofs.tables.Tables.touch_work.Goals as goal
 
 pub returns-in_ok-referred-in-Reply-clause-has : goal.returns-in_ok-referred-in-Reply-clause-has
@@ -6,3 +8,18 @@ returns-in_ok-referred-in-Reply-clause-has c = λ s h. rw c.in-Reply.is (reply_g
 
 pub returns-in_ok-referred-in-Call-clause-has : goal.returns-in_ok-referred-in-Call-clause-has
 returns-in_ok-referred-in-Call-clause-has c = λ s h. rw c.in-Call.is (call_gathered s c.args.exit.now _ c.in-Call.b (c.in_ok-referred-in-Call.ensures s h.objects_stand) c.in_ok-push-in-Call.ensures.items)
+
+pub returns-in_ok-push-in-Notice-clause-has : goal.returns-in_ok-push-in-Notice-clause-has
+returns-in_ok-push-in-Notice-clause-has c = λ s h. rw c.in-Notice.is (notice_gathered s c.args.exit.now _ c.in-Notice.o c.in_ok-push-in-Notice.ensures.items)
+
+pub returns-in_ok-push-in-Notice-clause-grows : goal.returns-in_ok-push-in-Notice-clause-grows
+returns-in_ok-push-in-Notice-clause-grows c = λ s h.
+    grows_by c.args.exit.now _ (c.in-Notice.o ∷ []) [] c.in_ok-push-in-Notice.ensures.items (sym (append-nil c.args.exit.now.frames.items))
+
+pub returns-in_ok-referred-in-Reply-clause-grows : goal.returns-in_ok-referred-in-Reply-clause-grows
+returns-in_ok-referred-in-Reply-clause-grows c = λ s h.
+    grows_by c.args.exit.now _ _ [] (c.in_ok-referred-in-Reply.ensures s h.objects_stand) (sym (append-nil c.args.exit.now.frames.items))
+
+pub returns-in_ok-referred-in-Call-clause-grows : goal.returns-in_ok-referred-in-Call-clause-grows
+returns-in_ok-referred-in-Call-clause-grows c = λ s h.
+    grows_by c.args.exit.now _ _ (c.in-Call.b ∷ []) (c.in_ok-referred-in-Call.ensures s h.objects_stand) c.in_ok-push-in-Call.ensures.items

@@ -1,5 +1,0 @@
-pub mod Numbers
-pub mod Stands
-pub mod Keys
-pub mod Sound
-pub mod Named

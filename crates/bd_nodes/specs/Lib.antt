@@ -1,4 +1,0 @@
-pub mod Keys
-pub mod New
-pub mod Room
-pub mod Stands

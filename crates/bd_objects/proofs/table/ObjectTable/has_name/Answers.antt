@@ -1,0 +1,11 @@
+use Rattle.std.proofs.Common.{◌≡◌, ◌||◌, Bool, true, false, cond, List, [], ◌∷◌, Some, find, refl, ap, sym, ◌∙◌}
+use Rattle.std.specs.List.{list_any}
+use Rattle.std.specs.Option.{option_map, is_some}
+use Rattle.bd_space.specs.declared.space.Name.{Name}
+use Rattle.bd_records.specs.Sound.{has_object}
+use Rattle.bd_records.proofs.Freeing.{any_is_some}
+use Rattle.bd_objects.proofs.table.ObjectTable.has_name.Goals as goal
+
+pub returns : goal.returns
+returns c = λ s h.
+    c.is_some.ensures ∙ ap is_some (c.name_number.ensures s.names h.names_are.stands) ∙ sym (any_is_some (λ (m : Name). m.number) (has_object c.args.p c.args.o) s.names)

@@ -1,0 +1,15 @@
+use Rattle.std.proofs.Common.{sym, subst}
+use Rattle.bd_objects.specs.Stands.{StandsFor}
+use Rattle.bd_objects.proofs.table.ObjectTable.reserve_ahead.Goals as goal
+use Rattle.bd_objects.proofs.table.ObjectTable.reserve_ahead.Goals.{then-not-is_within-via-then-not-is_within, then-not-is_within-via-else-not-is_within+then-is_err}
+
+pub returns-then-not-is_within-clause-stands : goal.returns-then-not-is_within-clause-stands
+returns-then-not-is_within-clause-stands c = λ s h. elim c.then-not-is_within.branch [
+  | then-not-is_within-via-then-not-is_within w ↦ subst (λ t. StandsFor t s) (sym w.self-is) h
+  | then-not-is_within-via-else-not-is_within+then-is_err w ↦ subst (λ t. StandsFor t s) (sym w.self-is) (w.reserve_lists.ensures.stands s h)
+]
+
+pub returns-clause-stands : goal.returns-clause-stands
+returns-clause-stands c = λ s h.
+    let kept = c.reserve_lists.ensures.stands s h in
+    record { records_are = kept.records_are; names_are = kept.names_are; deaths_are = kept.deaths_are }

@@ -1,0 +1,35 @@
+-- Names of which none has a number past the limit.
+use Rattle.std.proofs.Common.{◌≡◌, ℕ, ◌<◌, Bool, true, false, cond, eqb, List, [], ◌∷◌, ◌++◌, None, refl, ◌∙◌, filter, arith}
+use Rattle.std.specs.Prelude.{nat_lt}
+use Rattle.std.specs.List.{list_any}
+use Rattle.std.proofs.lemmas.List.Folds.{list_any-append}
+use Rattle.std.proofs.lemmas.Bool.{or_parts, or_from, eqb-true}
+use Rattle.std.proofs.lemmas.Bool.Decides.{nat_tests}
+use Rattle.bd_space.specs.declared.space.Name.{Name}
+use Rattle.bd_space.specs.Names.{named_in, has_number_past_limit}
+
+none_filter : {A : Type 0} (p q : A → Bool) (xs : List A) → list_any p xs ≡ false → list_any p (filter q xs) ≡ false
+none_filter p q [] h = refl
+none_filter p q (x ∷ xs) h =
+    let n = or_parts (p x) (list_any p xs) h in
+    let rest = none_filter p q xs n.1 in
+    elim (q x) as (λ b. list_any p (cond b (x ∷ filter q xs) (filter q xs)) ≡ false) [ true ↦ or_from _ _ n.0 rest | false ↦ rest ]
+
+pub fits_filter : (q : Name → Bool) (names : List Name) → has_number_past_limit names ≡ false → has_number_past_limit (filter q names) ≡ false
+fits_filter q names h = none_filter (λ (m : Name). nat_lt 4294967294 m.number) q names h
+
+-- Names within the limit and one more within it are within it.
+pub fits_push : (names : List Name) (m : Name) → has_number_past_limit names ≡ false → nat_lt 4294967294 m.number ≡ false → has_number_past_limit (names ++ m ∷ []) ≡ false
+fits_push names m h e = list_any-append (λ (m : Name). nat_lt 4294967294 m.number) names (m ∷ []) ∙ or_from _ _ h (rw e refl)
+
+-- No number past the limit names anything.
+pub past_unnamed : (names : List Name) → has_number_past_limit names ≡ false → (p n : ℕ) → 4294967294 < n → named_in names p n ≡ None
+past_unnamed [] h p n past = refl
+past_unnamed (m ∷ ms) h p n past =
+    let parts = or_parts (nat_lt 4294967294 m.number) (has_number_past_limit ms) h in
+    at (eqb m.process p) (eqb m.number n) refl refl parts.0 (past_unnamed ms parts.1 p n past)
+  where
+    at : (a b : Bool) → eqb m.process p ≡ a → eqb m.number n ≡ b → nat_lt 4294967294 m.number ≡ false → named_in ms p n ≡ None → named_in (m ∷ ms) p n ≡ None
+    at true true e f within rest = let s : m.number ≡ n = eqb-true m.number n f in absurd (grind (arith, nat_tests))
+    at true false e f within rest = rw (e, f) rest
+    at false b e f within rest = rw e rest

@@ -1,0 +1,7 @@
+use Rattle.bd_records.specs.declared.number_key.ObjectKey.{ObjectKey}
+use Rattle.bd_records.proofs.number_key.insert_number.Goals as goal
+
+pub returns-clause-at : goal.returns-clause-at
+returns-clause-at c = λ q x.
+    let k : ObjectKey = record { process = q; object = x } in
+    c.insert_reserved.ensures.put k
