@@ -2,8 +2,10 @@ pub mod Named
 pub mod Suspects
 pub mod Groups
 pub mod Rows
+pub mod Homes
 pub mod Waiting
 pub mod Reached
 pub mod Forgotten
+pub mod Due
 pub mod Signals
 pub mod Settled

@@ -1,13 +1,14 @@
 //! The bridge: an engine, those who wait, and who of them is to be looked at.
 
-ghost use Rattle.std.specs.Prelude.{ℕ, ◌≡◌, ◌==◌, ◌<◌, ◌≤◌, ◌+◌, Some, None, [], true, false, IsTrue, IsSome, if◌then◌else◌, MatchOption, IfOk, IfSome, IsNone, OnOk, OnErr, option_map, vec_len, vec_capacity};
+ghost use Rattle.std.specs.Prelude.{ℕ, ◌≡◌, ◌==◌, ◌&&◌, ◌<◌, ◌≤◌, ◌+◌, Some, None, [], true, false, IsTrue, IsSome, if◌then◌else◌, MatchOption, IfOk, IfSome, IsNone, OnOk, OnErr, option_map, vec_len, vec_capacity};
 ghost use Rattle.bd_bridge.specs.{Suspects.{is_suspect, suspects_in}, Waiting.{at, seats_in}, Reached.{names}};
 ghost use Rattle.bd_bridge.specs.Forgotten.{NobodyIsForgotten, NobodyIsForgottenBut, IsInformed};
-ghost use Rattle.bd_bridge.specs.{Settled.{HasSettled}, Signals.{IsDue, WaitsAfter, IsMade, signals_of, seat_of, after_signal, awake, world_after, world_if, world_then}};
-ghost use Rattle.bd_bridge.specs.declared.signal.Signal.TheVariants.{Bell};
+ghost use Rattle.bd_bridge.specs.{Settled.{HasSettled}, Due.{Fits, IsRight}, Signals.{IsDue, WaitsAfter, IsMade, signals_of, seat_of, after_signal, awake, awakened, world_after, world_if, world_then}};
+ghost use Rattle.bd_bridge.specs.declared.{signal.Signal.TheVariants.{Bell}, due.Due.TheVariants.{Nothing}};
 
-use crate::engine::{Engine, Reached, TodoList};
-use crate::reach::{mark_reached, mark_readers};
+use crate::due::Due;
+use crate::engine::{Engine, Reached};
+use crate::reach::{mark_reached, mark_seat};
 use crate::signal::Signal;
 use crate::suspects::Suspects;
 use crate::waiters::{Reading, Waiter, Waiters};
@@ -52,6 +53,7 @@ impl<E: Engine> Bridge<E> {
     }
 
     // How it does, or would.
+    #[inline(always)]
     fn waiter_or_new(&self, seat: u32) -> Waiter
         ensures of { (h : E.World) → E.Follows self.now.engine h → NobodyIsForgotten (E.Sees h) (E.IsOf h) self.now.waiters self.now.suspects → E.IsOf h seat result.process }
         ensures known { IfSome (at self.now.waiters seat) (λ w. result ≡ w) }
@@ -68,6 +70,7 @@ impl<E: Engine> Bridge<E> {
     }
 
     // A seat's thread waits so from now on, and is to be looked at.
+    #[inline(always)]
     fn put(&mut self, alloc: Global, seat: u32, waiter: Waiter) -> Result<(), AllocError>
         requires { seat < seats_in self.old.waiters }
         ensures watched { (h : E.World) → NobodyIsForgotten (E.Sees h) (E.IsOf h) self.old.waiters self.old.suspects → E.IsOf h seat waiter.process
@@ -78,12 +81,12 @@ impl<E: Engine> Bridge<E> {
         ensures seats { seats_in self.new.waiters ≡ seats_in self.old.waiters }
     {
         self.waiters.insert(alloc, seat, waiter)?;
-        let seats = self.waiters.seats();
-        self.suspects.add(seat, seats);
+        self.mark_again(seat);
         Ok(())
     }
 
     /// A seat's thread waits in a read from now on, and its doorbell stays as it is. Errors: memory was refused, and all wait as before.
+    #[inline(always)]
     pub fn wait(&mut self, alloc: Global, seat: u32, reading: Reading) -> Result<(), AllocError>
         requires { seat < seats_in self.old.waiters }
         ensures watched { (h : E.World) → E.Follows self.old.engine h → NobodyIsForgotten (E.Sees h) (E.IsOf h) self.old.waiters self.old.suspects
@@ -143,8 +146,6 @@ impl<E: Engine> Bridge<E> {
         ensures seats { seats_in self.new.waiters ≡ seats_in self.old.waiters }
     {
         if let Some(waiter) = self.waiters.get(seat) {
-            let seats = self.waiters.seats();
-            self.suspects.add(seat, seats);
             self.awake(seat, waiter);
         }
     }
@@ -162,6 +163,7 @@ impl<E: Engine> Bridge<E> {
 
     /// Makes a step. Whoever waits and may have something to read by it, or nothing any more, is looked at from now on, the
     /// thread that made it among them. Who leaves its process by the step may not wait.
+    #[inline(always)]
     pub fn step(&mut self, seat: u32, step: E::Step) -> E::Answer
         requires acts { IsSome (at self.old.waiters seat) → E.IsCommand step }
         requires seat { seat < seats_in self.old.waiters }
@@ -172,32 +174,29 @@ impl<E: Engine> Bridge<E> {
         ensures made { E.Made self.old.engine seat step result self.new.engine }
     {
         let answer = self.engine.step(seat, step, &mut self.reached);
-        mark_readers(&mut self.suspects, &self.waiters, TodoList::OfSeat(seat));
+        mark_seat(&mut self.suspects, &self.waiters, seat);
         mark_reached(&mut self.suspects, &self.waiters, &self.reached);
         answer
     }
 
-    // Has a seat read. More may be there: a list that still has something isn't named, so the seat is looked at again.
-    fn read_for(&mut self, seat: u32, room: u32) -> E::Read
-        requires seat { seat < seats_in self.old.waiters }
-        ensures follows { (h : E.World) → E.Follows self.old.engine h → E.Follows self.new.engine (E.has_read h seat result) }
-        ensures watched { (h : E.World) → E.Follows self.old.engine h → NobodyIsForgottenBut seat (E.Sees h) (E.IsOf h) self.old.waiters self.old.suspects
-            → (let h' = E.has_read h seat result in NobodyIsForgotten (E.Sees h') (E.IsOf h') self.new.waiters self.new.suspects) }
-        ensures again { is_suspect self.new.suspects seat ≡ true }
+    // A seat that waits is to be looked at.
+    #[inline(always)]
+    fn mark_again(&mut self, seat: u32)
+        requires { seat < seats_in self.old.waiters }
+        ensures watched { (h : E.World) → NobodyIsForgottenBut seat (E.Sees h) (E.IsOf h) self.old.waiters self.old.suspects
+            → NobodyIsForgotten (E.Sees h) (E.IsOf h) self.new.waiters self.new.suspects }
         ensures waiters { self.new.waiters ≡ self.old.waiters }
-        ensures made { E.MadeRead self.old.engine seat room result self.new.engine }
+        ensures engine { self.new.engine ≡ self.old.engine }
     {
-        let read = self.engine.read(seat, room, &mut self.reached);
         let seats = self.waiters.seats();
         self.suspects.add(seat, seats);
-        mark_reached(&mut self.suspects, &self.waiters, &self.reached);
-        read
     }
 
-    // Who waits in a read does so no more, and waits on by its doorbell, if it has one.
+    // Who waits in a read does so no more. It waits on by its doorbell, if it has one, and is then looked at again.
+    #[inline(always)]
     fn awake(&mut self, seat: u32, waiter: Waiter)
         requires { at self.old.waiters seat ≡ Some waiter }
-        ensures watched { (h : E.World) → is_suspect self.old.suspects seat ≡ true → NobodyIsForgotten (E.Sees h) (E.IsOf h) self.old.waiters self.old.suspects
+        ensures watched { (h : E.World) → NobodyIsForgottenBut seat (E.Sees h) (E.IsOf h) self.old.waiters self.old.suspects
             → NobodyIsForgotten (E.Sees h) (E.IsOf h) self.new.waiters self.new.suspects }
         ensures waits { (t : ℕ) → at self.new.waiters t ≡ (if t == seat then awake waiter else at self.old.waiters t) }
         ensures engine { self.new.engine ≡ self.old.engine }
@@ -211,57 +210,72 @@ impl<E: Engine> Bridge<E> {
                     ..waiter
                 },
             );
+            self.mark_again(seat);
         } else {
-            self.waiters.remove(seat);
+            self.waiters.stop(seat);
         }
     }
 
-    // Answers a read that waits, or reads ahead for it.
-    fn serve(&mut self, seat: u32, waiter: Waiter, reading: Reading) -> Signal<E::Read>
-        requires waits { at self.old.waiters seat ≡ Some waiter }
-        requires reads { waiter.reads ≡ Some reading }
-        requires seat { seat < seats_in self.old.waiters }
-        ensures follows { (h : E.World) → E.Follows self.old.engine h → E.Follows self.new.engine (world_after E.has_read h result) }
-        ensures watched { (h : E.World) → E.Follows self.old.engine h → NobodyIsForgottenBut seat (E.Sees h) (E.IsOf h) self.old.waiters self.old.suspects
-            → (let h' = world_after E.has_read h result in NobodyIsForgotten (E.Sees h') (E.IsOf h') self.new.waiters self.new.suspects) }
-        ensures waits { (t : ℕ) → at self.new.waiters t ≡ after_signal result t (at self.old.waiters t) }
-        ensures due { (h : E.World) → E.Follows self.old.engine h → E.Sees h seat true
-            → IsDue (E.Sees h) (WaitsAfter E.has_read E.CanWait h) (at self.old.waiters seat) result }
-        ensures of { seat_of result ≡ seat }
-        ensures made { IsMade E.MadeRead self.old.engine (at self.old.waiters seat) result self.new.engine }
+    // Whether who waits in a read is to be told of this, which it has just read.
+    #[inline(always)]
+    fn has_to_wake(&self, seat: u32, reading: Reading, read: &E::Read) -> bool
+        ensures { result ≡ false → (reading.defers ≡ true) × ((h : E.World) → E.Follows self.now.engine h → E.CanWait h seat read.now) }
+    {
+        !reading.defers || !self.engine.can_wait(seat, read)
+    }
+
+    // Who waits in a read does so no more where it is woken, and else is looked at again.
+    #[inline(always)]
+    fn settle_read(&mut self, seat: u32, waiter: Waiter, wakes: bool)
+        requires { at self.old.waiters seat ≡ Some waiter }
+        ensures watched { (h : E.World) → NobodyIsForgottenBut seat (E.Sees h) (E.IsOf h) self.old.waiters self.old.suspects
+            → NobodyIsForgotten (E.Sees h) (E.IsOf h) self.new.waiters self.new.suspects }
+        ensures waits { (t : ℕ) → at self.new.waiters t ≡ (if wakes && (seat == t) then awakened (at self.old.waiters t) else at self.old.waiters t) }
+        ensures engine { self.new.engine ≡ self.old.engine }
         ensures seats { seats_in self.new.waiters ≡ seats_in self.old.waiters }
     {
-        let read = self.read_for(seat, reading.room);
-        if reading.defers && self.engine.can_wait(seat, &read) {
-            return Signal::Read {
-                seat,
-                read,
-                wakes: false,
-            };
-        }
-        self.awake(seat, waiter);
-        Signal::Read {
-            seat,
-            read,
-            wakes: true,
+        if wakes {
+            self.awake(seat, waiter);
+        } else {
+            self.mark_again(seat);
         }
     }
 
-    // Notes whether a seat that is looked at has something to read, and tells its doorbell where that has changed.
-    fn note(&mut self, seat: u32, waiter: Waiter, ready: bool) -> Option<Signal<E::Read>>
+    // Answers a read that waits, or reads ahead for it. More may be there: a list that still has something isn't named.
+    #[inline(always)]
+    fn serve(&mut self, seat: u32, waiter: Waiter, reading: Reading) -> Option<Signal<E::Read>>
+        requires waits { at self.old.waiters seat ≡ Some waiter }
+        requires reads { waiter.reads ≡ Some reading }
+        ensures some { IsSome result }
+        ensures follows { IfSome result (λ x. (h : E.World) → E.Follows self.old.engine h → E.Follows self.new.engine (world_after E.has_read h x)) }
+        ensures watched { IfSome result (λ x. (h : E.World) → E.Follows self.old.engine h → NobodyIsForgottenBut seat (E.Sees h) (E.IsOf h) self.old.waiters self.old.suspects
+            → (let h' = world_after E.has_read h x in NobodyIsForgotten (E.Sees h') (E.IsOf h') self.new.waiters self.new.suspects)) }
+        ensures waits { IfSome result (λ x. (t : ℕ) → at self.new.waiters t ≡ after_signal x t (at self.old.waiters t)) }
+        ensures due { IfSome result (λ x. (h : E.World) → E.Follows self.old.engine h → E.Sees h seat true
+            → IsDue (E.Sees h) (WaitsAfter E.has_read E.CanWait h) (at self.old.waiters seat) x) }
+        ensures of { IfSome result (λ x. seat_of x ≡ seat) }
+        ensures made { IfSome result (λ x. IsMade E.MadeRead self.old.engine (at self.old.waiters seat) x self.new.engine) }
+        ensures seats { seats_in self.new.waiters ≡ seats_in self.old.waiters }
+    {
+        let read = self.engine.read(seat, reading.room, &mut self.reached);
+        mark_reached(&mut self.suspects, &self.waiters, &self.reached);
+        let wakes = self.has_to_wake(seat, reading, &read);
+        self.settle_read(seat, waiter, wakes);
+        Some(Signal::Read { seat, read, wakes })
+    }
+
+    // Notes whether a seat that is looked at has something to read, which has changed, and tells its doorbell.
+    #[inline(always)]
+    fn ring(&mut self, seat: u32, waiter: Waiter, ready: bool) -> Option<Signal<E::Read>>
         requires waits { at self.old.waiters seat ≡ Some waiter }
         requires quiet { ready ≡ true → waiter.reads ≡ None }
         ensures watched { (h : E.World) → E.Sees h seat ready → NobodyIsForgottenBut seat (E.Sees h) (E.IsOf h) self.old.waiters self.old.suspects
             → NobodyIsForgotten (E.Sees h) (E.IsOf h) self.new.waiters self.new.suspects }
         ensures engine { self.new.engine ≡ self.old.engine }
         ensures seats { seats_in self.new.waiters ≡ seats_in self.old.waiters }
-        ensures suspects { self.new.suspects ≡ self.old.suspects }
-        ensures told { MatchOption result (self.new.waiters ≡ self.old.waiters)
-            (λ x. (x ≡ Bell seat ready) × ((t : ℕ) → at self.new.waiters t ≡ after_signal x t (at self.old.waiters t))) }
+        ensures is { result ≡ Some (Bell seat ready) }
+        ensures waits { IfSome result (λ x. (t : ℕ) → at self.new.waiters t ≡ after_signal x t (at self.old.waiters t)) }
     {
-        if waiter.is_rung == ready {
-            return None;
-        }
         self.waiters.set(
             seat,
             Waiter {
@@ -272,7 +286,56 @@ impl<E: Engine> Bridge<E> {
         Some(Signal::Bell { seat, rings: ready })
     }
 
+    // What a seat that is looked at is due.
+    #[inline(always)]
+    fn judge(&self, seat: u32) -> Due
+        ensures fits { Fits (at self.now.waiters seat) result }
+        ensures right { (h : E.World) → E.Follows self.now.engine h → IsRight (E.Sees h) (at self.now.waiters seat) seat result }
+    {
+        let Some(waiter) = self.waiters.get(seat) else {
+            return Due::Nothing;
+        };
+        let ready = self.engine.is_ready(seat);
+        if let Some(reading) = waiter.reads {
+            if ready {
+                return Due::Reading { waiter, reading };
+            }
+        }
+        if waiter.is_rung == ready {
+            Due::Nothing
+        } else {
+            Due::Ringing {
+                waiter,
+                rings: ready,
+            }
+        }
+    }
+
+    // Gives a seat the signal that it is due, if any.
+    #[inline(always)]
+    fn tell(&mut self, seat: u32, due: Due) -> Option<Signal<E::Read>>
+        requires { Fits (at self.old.waiters seat) due }
+        ensures seats { seats_in self.new.waiters ≡ seats_in self.old.waiters }
+        ensures none { IsNone result → (due ≡ Nothing) × (self.new ≡ self.old) }
+        ensures made { IfSome result (λ x. IsMade E.MadeRead self.old.engine (at self.old.waiters seat) x self.new.engine) }
+        ensures of { IfSome result (λ x. seat_of x ≡ seat) }
+        ensures waits { IfSome result (λ x. (t : ℕ) → at self.new.waiters t ≡ after_signal x t (at self.old.waiters t)) }
+        ensures due { IfSome result (λ x. (h : E.World) → E.Follows self.old.engine h → IsRight (E.Sees h) (at self.old.waiters seat) seat due
+            → IsDue (E.Sees h) (WaitsAfter E.has_read E.CanWait h) (at self.old.waiters seat) x) }
+        ensures follows { IfSome result (λ x. (h : E.World) → E.Follows self.old.engine h → E.Follows self.new.engine (world_after E.has_read h x)) }
+        ensures watched { IfSome result (λ x. (h : E.World) → E.Follows self.old.engine h → IsRight (E.Sees h) (at self.old.waiters seat) seat due
+            → NobodyIsForgottenBut seat (E.Sees h) (E.IsOf h) self.old.waiters self.old.suspects
+            → (let h' = world_after E.has_read h x in NobodyIsForgotten (E.Sees h') (E.IsOf h') self.new.waiters self.new.suspects)) }
+    {
+        match due {
+            Due::Nothing => None,
+            Due::Ringing { waiter, rings } => self.ring(seat, waiter, rings),
+            Due::Reading { waiter, reading } => self.serve(seat, waiter, reading),
+        }
+    }
+
     // Looks at one seat, which gets one signal, where it waits and isn't informed.
+    #[inline(always)]
     fn look(&mut self, seat: u32) -> Option<Signal<E::Read>>
         ensures seats { seats_in self.new.waiters ≡ seats_in self.old.waiters }
         ensures none { IsNone result → (self.new.waiters ≡ self.old.waiters) × (self.new.suspects ≡ self.old.suspects) }
@@ -285,14 +348,32 @@ impl<E: Engine> Bridge<E> {
         ensures watched { (h : E.World) → E.Follows self.old.engine h → NobodyIsForgottenBut seat (E.Sees h) (E.IsOf h) self.old.waiters self.old.suspects
             → (let h' = world_if E.has_read h result in E.Follows self.new.engine h' × NobodyIsForgotten (E.Sees h') (E.IsOf h') self.new.waiters self.new.suspects) }
     {
-        let waiter = self.waiters.get(seat)?;
-        let ready = self.engine.is_ready(seat);
-        if let Some(reading) = waiter.reads {
-            if ready {
-                return Some(self.serve(seat, waiter, reading));
+        let due = self.judge(seat);
+        self.tell(seat, due)
+    }
+
+    // Looks at so many seats at most, until one is due something: who, and what.
+    #[inline(always)]
+    fn next_due(&mut self, looks: u32) -> Option<(u32, Due)>
+        ensures waiters { self.new.waiters ≡ self.old.waiters }
+        ensures engine { self.new.engine ≡ self.old.engine }
+        ensures fits { IfSome result (λ x. Fits (at self.old.waiters x.0) x.1) }
+        ensures right { IfSome result (λ x. (h : E.World) → E.Follows self.old.engine h → IsRight (E.Sees h) (at self.old.waiters x.0) x.0 x.1) }
+        ensures something { IfSome result (λ x. x.1 ≡ Nothing → ⊥) }
+        ensures but { IfSome result (λ x. (h : E.World) → E.Follows self.old.engine h → NobodyIsForgotten (E.Sees h) (E.IsOf h) self.old.waiters self.old.suspects
+            → NobodyIsForgottenBut x.0 (E.Sees h) (E.IsOf h) self.old.waiters self.new.suspects) }
+        ensures watched { IsNone result → (h : E.World) → E.Follows self.old.engine h → NobodyIsForgotten (E.Sees h) (E.IsOf h) self.old.waiters self.old.suspects
+            → NobodyIsForgotten (E.Sees h) (E.IsOf h) self.old.waiters self.new.suspects }
+        ensures progress { IsNone result → suspects_in self.old.suspects ≤ looks → suspects_in self.new.suspects ≡ 0 }
+    {
+        for look in 0..looks {
+            let seat = self.suspects.take()?;
+            let due = self.judge(seat);
+            if due.is_something() {
+                return Some((seat, due));
             }
         }
-        self.note(seat, waiter, ready)
+        None
     }
 
     /// Looks at so many seats at most, and tells what signals that has come to, the first first. Whether nobody is left to
@@ -326,6 +407,7 @@ impl<E: Engine> Bridge<E> {
 
     /// Looks at so many seats at most, until one of them gets a signal: that, if there was one. As `settle`, of which it makes
     /// as much as comes to one signal.
+    #[inline(always)]
     pub fn settle_one(&mut self, looks: u32) -> Option<Signal<E::Read>>
         ensures on { (h : E.World) → E.Follows self.old.engine h → NobodyIsForgotten (E.Sees h) (E.IsOf h) self.old.waiters self.old.suspects
             → HasSettled E.Follows E.Sees E.IsOf E.has_read E.CanWait h self.old.waiters (signals_of result) self.new.engine self.new.waiters self.new.suspects }
@@ -334,13 +416,10 @@ impl<E: Engine> Bridge<E> {
         ensures progress { IsNone result → suspects_in self.old.suspects ≤ looks → suspects_in self.new.suspects ≡ 0 }
         ensures seats { seats_in self.new.waiters ≡ seats_in self.old.waiters }
     {
-        for look in 0..looks {
-            let seat = self.suspects.take()?;
-            if let Some(signal) = self.look(seat) {
-                return Some(signal);
-            }
+        match self.next_due(looks) {
+            None => None,
+            Some((seat, due)) => self.tell(seat, due),
         }
-        None
     }
 
     /// Whether nobody is left to be looked at.

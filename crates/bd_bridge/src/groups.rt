@@ -1,6 +1,6 @@
 //! Those who wait, by process.
 
-ghost use Rattle.std.specs.Prelude.{ℕ, ◌≡◌, ◌==◌, ◌++◌, ◌∷◌, ◌&&◌, if◌then◌else◌, [], is_ok, true, not, filter};
+ghost use Rattle.std.specs.Prelude.{ℕ, ◌≡◌, ◌==◌, ◌≤◌, ◌++◌, ◌∷◌, ◌&&◌, if◌then◌else◌, [], is_ok, true, not, filter, vec_len, vec_capacity};
 ghost use Rattle.bd_bridge.specs.Groups.{seats_of};
 ghost use Rattle.bd_bridge.specs.Named.{has_seat};
 
@@ -15,9 +15,22 @@ pub struct Groups {
 
 // Takes a seat out of a group.
 fn leave(seats: &mut Vec<u32>, seat: u32)
-    ensures { seats.new.items ≡ filter (λ s. not (s == seat)) seats.old.items }
+    ensures left { seats.new.items ≡ filter (λ s. not (s == seat)) seats.old.items }
+    ensures fewer { vec_len seats.new ≤ vec_len seats.old }
+    ensures capacity { vec_capacity seats.new ≡ vec_capacity seats.old }
 {
     seats.retain(|s| *s != seat);
+}
+
+// Puts a seat behind all others of its group.
+fn bring_last(seats: &mut Vec<u32>, seat: u32) -> Result<(), AllocError>
+    ensures { seats.new.items
+        ≡ (if is_ok result then filter (λ s. not (s == seat)) seats.old.items ++ seat ∷ [] else seats.old.items) }
+{
+    seats.reserve(1)?;
+    leave(seats, seat);
+    seats.push_reserved(seat);
+    Ok(())
 }
 
 impl Groups {
@@ -55,9 +68,21 @@ impl Groups {
         Ok(())
     }
 
+    /// One who is or was there comes last of a process. Errors: memory was refused, and all stand as before.
+    pub fn come_last(&mut self, alloc: Global, process: u64, seat: u32) -> Result<(), AllocError>
+        ensures kept { (p t : ℕ) → has_seat (seats_of self.old p) t ≡ true → has_seat (seats_of self.new p) t ≡ true }
+        ensures come { is_ok result ≡ true → has_seat (seats_of self.new process) seat ≡ true }
+    {
+        if let Some(seats) = self.lists.get_mut(&process) {
+            return bring_last(seats, seat);
+        }
+        self.add(alloc, process, seat)
+    }
+
     /// One of a process leaves, and with the last one its list.
     pub fn remove(&mut self, process: u64, seat: u32)
-        ensures { (p t : ℕ) → (t ≡ seat → ⊥) → has_seat (seats_of self.new p) t ≡ has_seat (seats_of self.old p) t }
+        ensures left { (p t : ℕ) → (t ≡ seat → ⊥) → has_seat (seats_of self.new p) t ≡ has_seat (seats_of self.old p) t }
+        ensures others { (p : ℕ) → (p ≡ process → ⊥) → seats_of self.new p ≡ seats_of self.old p }
     {
         if let Some(seats) = self.lists.get_mut(&process) {
             leave(seats, seat);

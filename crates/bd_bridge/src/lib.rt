@@ -2,6 +2,7 @@
 #![tactic(auto)]
 
 mod bridge;
+mod due;
 mod engine;
 mod groups;
 mod loopers;

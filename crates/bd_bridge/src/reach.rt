@@ -1,37 +1,45 @@
 //! Who is to be looked at after a step.
 
-ghost use Rattle.std.specs.Prelude.{ℕ, ◌≡◌, ◌<◌, Some, true};
+ghost use Rattle.std.specs.Prelude.{ℕ, ◌≡◌, Some, true};
 ghost use Rattle.bd_bridge.specs.{Reached.{is_read_by, names}, Suspects.{is_suspect}, Named.{has_seat}, Waiting.{at}};
 
 use crate::engine::{Reached, TodoList};
 use crate::suspects::Suspects;
 use crate::waiters::Waiters;
 
-// These seats are suspects from now on, the last of them in front.
-fn mark_seats(suspects: &mut Suspects, seats: u32, these: &[u32])
-    ensures marked { (t : ℕ) → t < seats → has_seat these.now t ≡ true → is_suspect suspects.new t ≡ true }
+/// A seat is a suspect from now on, if its thread waits.
+#[inline(always)]
+pub(crate) fn mark_seat(suspects: &mut Suspects, waiters: &Waiters, seat: u32)
+    ensures named { (w : _) → at waiters.now seat ≡ Some w → is_suspect suspects.new seat ≡ true }
+    ensures kept { (t : ℕ) → is_suspect suspects.old t ≡ true → is_suspect suspects.new t ≡ true }
+{
+    if waiters.get(seat).is_some() {
+        suspects.add(seat, waiters.seats());
+    }
+}
+
+// Those of these seats who wait are suspects from now on, the last of them in front.
+fn mark_seats(suspects: &mut Suspects, waiters: &Waiters, these: &[u32])
+    ensures named { (t : ℕ) (w : _) → at waiters.now t ≡ Some w → has_seat these.now t ≡ true → is_suspect suspects.new t ≡ true }
     ensures kept { (t : ℕ) → is_suspect suspects.old t ≡ true → is_suspect suspects.new t ≡ true }
 {
     let mut left = these.len();
     while left > 0 {
         left -= 1;
-        suspects.add(these[left], seats);
+        mark_seat(suspects, waiters, these[left]);
     }
 }
 
-/// Those who wait and read a list are suspects from now on.
-pub(crate) fn mark_readers(suspects: &mut Suspects, waiters: &Waiters, list: TodoList)
+// Those who wait and read a list are suspects from now on.
+#[inline(always)]
+fn mark_readers(suspects: &mut Suspects, waiters: &Waiters, list: TodoList)
     ensures named { (t : ℕ) (w : _) → at waiters.now t ≡ Some w → is_read_by t w.process list ≡ true → is_suspect suspects.new t ≡ true }
     ensures kept { (t : ℕ) → is_suspect suspects.old t ≡ true → is_suspect suspects.new t ≡ true }
 {
     match list {
-        TodoList::OfSeat(seat) => {
-            if waiters.get(seat).is_some() {
-                suspects.add(seat, waiters.seats());
-            }
-        }
+        TodoList::OfSeat(seat) => mark_seat(suspects, waiters, seat),
         TodoList::OfProcess(process) => {
-            mark_seats(suspects, waiters.seats(), waiters.of_process(process));
+            mark_seats(suspects, waiters, waiters.of_process(process));
         }
     }
 }

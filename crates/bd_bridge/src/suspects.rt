@@ -43,6 +43,7 @@ impl Suspects {
     }
 
     // Whether a seat's name is among them, as far as that is known.
+    #[inline(always)]
     fn is_named(&self, seat: u32) -> bool
         ensures { result ≡ true → has_seat self.now.seats.items seat ≡ true }
     {
@@ -53,6 +54,7 @@ impl Suspects {
     }
 
     /// One more, behind all others, or, where there is no memory for its name, all below `seats`.
+    #[inline(always)]
     pub fn add(&mut self, seat: u32, seats: u32)
         ensures added { seat < seats → is_suspect self.new seat ≡ true }
         ensures kept { (t : ℕ) → is_suspect self.old t ≡ true → is_suspect self.new t ≡ true }
@@ -70,6 +72,7 @@ impl Suspects {
     }
 
     /// Takes one out: the first that was named, then the highest of the others.
+    #[inline(always)]
     pub fn take(&mut self) -> Option<u32>
         ensures taken { MatchOption result ((t : ℕ) → is_suspect self.old t ≡ false)
             (λ seat. (t : ℕ) → is_suspect self.old t ≡ true → (t ≡ seat) ⊎ (is_suspect self.new t ≡ true)) }
@@ -90,6 +93,7 @@ impl Suspects {
     }
 
     /// Whether there are none.
+    #[inline(always)]
     pub fn is_empty(&self) -> bool
         ensures none { IsTrue result → (t : ℕ) → is_suspect self.now t ≡ false }
         ensures empty { suspects_in self.now ≡ 0 → IsTrue result }

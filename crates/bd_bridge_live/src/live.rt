@@ -49,6 +49,7 @@ impl LiveEngine {
     }
 
     // Tells whose lists were filled or emptied since it last did.
+    #[inline(always)]
     fn tell(&mut self, reached: &mut Reached)
         ensures follows { (h : History) → engine.Follows self.old.live h → engine.Follows self.new.live h }
         ensures recalls { (h : History) → engine.Follows self.old.live h → self.new.is_told ≡ true → Recalls self.new.live (has_work (space_after h)) }
@@ -69,6 +70,7 @@ impl LiveEngine {
     }
 
     // Makes a step, and tells whose lists that has filled or emptied.
+    #[inline(always)]
     fn make(&mut self, seat: u32, step: Step, reached: &mut Reached) -> Result<Entry, NotMade>
         ensures follows { (h : History) → FollowsTold self.old h → FollowsTold self.new (after_step h seat step result) }
         ensures reaches { (h : History) → FollowsTold self.old h → (t p : ℕ) (b : Bool) → (t ≡ seat → ⊥) → IsOf h t p → Sees h t b

@@ -1,6 +1,6 @@
 use Rattle.std.proofs.Common.{◌+◌, ◌≡◌}
 use Rattle.bd_bridge.specs.{Forgotten.{NobodyIsForgotten}, Suspects.{suspects_in}}
-use Rattle.bd_bridge.proofs.bridge.Bridge.settle_one.Given as goal
+use Rattle.bd_bridge.proofs.bridge.Bridge.next_due.Given as goal
 
 abbrev pub invariant-loop-look : goal.invariant-loop-look
 invariant-loop-look g l = record {
