@@ -14,12 +14,11 @@
 #include <sys/mman.h>
 #include <sys/socket.h>
 #include <sys/un.h>
-#include <time.h>
 #include <unistd.h>
 
 #define OPENS 300
 #define MOST 64
-#define WHILE_MICROSECONDS 500000
+#define HANGING_UP 4000 /* so many are counted, however long that takes */
 
 static _Atomic uint64_t *hung_up;
 
@@ -37,19 +36,10 @@ static void hang_up(void *with)
     }
 }
 
-/* Microseconds of processor time that the daemon has used. */
-static double daemon_time(void)
-{
-    clockid_t clock;
-    struct timespec time;
-    CHECK(!clock_getcpuclockid(raw_daemon(), &clock) && !clock_gettime(clock, &time), "no daemon");
-    return (double)time.tv_sec * 1e6 + (double)time.tv_nsec / 1e3;
-}
-
 static double median_open(double *of_daemon)
 {
     static double times[OPENS];
-    double used = daemon_time();
+    double used = raw_daemon_time();
     for (size_t i = 0; i < OPENS; i++) {
         struct binder binder;
         double start = raw_now();
@@ -57,18 +47,18 @@ static double median_open(double *of_daemon)
         times[i] = raw_now() - start;
         binder_close(&binder);
     }
-    *of_daemon = (daemon_time() - used) / OPENS;
+    raw_daemon_rests();
+    *of_daemon = (raw_daemon_time() - used) / OPENS;
     return raw_spread(times, OPENS).median;
 }
 
 static double cost_of_hanging_up(void)
 {
-    double used = daemon_time();
+    double used = raw_daemon_time();
     uint64_t before = atomic_load(hung_up);
-    usleep(WHILE_MICROSECONDS);
-    uint64_t count = atomic_load(hung_up) - before;
-    CHECK(count, "nobody connects");
-    return (daemon_time() - used) / (double)count;
+    while (atomic_load(hung_up) - before < HANGING_UP)
+        usleep(1000);
+    return (raw_daemon_time() - used) / (double)(atomic_load(hung_up) - before);
 }
 
 int main(int argc, char **argv)
