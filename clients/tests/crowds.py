@@ -44,6 +44,8 @@ MOST_TURN_OBJECTS = 512
 HELD, MOST_END_TIME, MOST_END_HELD, ENDING_ROUNDS = 32768, 5000, 1000, 4
 # processes that connect and hang up; each time takes at most such a part of the daemon's time for an open
 COMERS, MOST_HANGUP = "8", 0.125
+# so many open it beside them where nobody judges how long that takes
+FEW_OPENS = "10"
 # descriptors of a device that somebody has opened: an epoll, a bell, and its latest steps
 OF_DEVICE = 3
 # so much more memory than before may the daemon have after a rest
@@ -253,7 +255,7 @@ def comers(build):
     """Who connects and hangs up takes little of the daemon's time, beside what an open takes, and of others' opens."""
     for _ in range(ROUNDS):
         with Stage(build) as stage:
-            told = stage.run([build.raw("comers"), COMERS])
+            told = stage.run([build.raw("comers"), COMERS, *([FEW_OPENS] if build.untimed else [])])
         found = figures(told)
         part, times = found["hangup"] / found["open"], found["beside"] / found["alone"]
         if part <= MOST_HANGUP and (build.untimed or times <= HOSTILE_TIMES):

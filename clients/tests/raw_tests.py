@@ -368,7 +368,9 @@ def fuzz(build):
 def linger(build):
     """Others needn't wait while a descriptor is closed that a client has left, however long that takes."""
     with Stage(build) as stage:
-        return stage.run([build.fuzz("linger")], client=False)
+        told = stage.run([build.fuzz("linger")], client=False)
+        expect("closing takes long: 2 threads do it" in stage.daemon.printed(), "one thread closes all, however long that takes")
+    return told
 
 
 @test("raw hanging")
