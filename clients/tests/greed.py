@@ -202,14 +202,13 @@ def begun_at(pid, thread):
         return int(file.read().rpartition(")")[2].split()[19])
 
 
-def closing(stage):
-    """Seconds of processor time that the daemon has used once it rests, after some of it."""
-    pid, before = stage.daemon.pid, processor_time(stage.daemon.pid)
-    comes(lambda: processor_time(pid) > before + MUCH)
+def used_for_closing(pid, before):
+    """Seconds of processor time that the daemon has used once it rests, after some of it: more than before."""
+    comes(lambda: processor_time(pid) > before + MUCH, 30)
     used = None
     while used != (used := processor_time(pid)):
         time.sleep(1)
-    return used
+    return used - before
 
 
 @test("raw costly ends", plain_only=True)
@@ -219,13 +218,12 @@ def costly(build):
     for whose, words in (("the device's thread", []), ("that which takes connections", ["control"])):
         with Stage(build) as stage:
             pid = stage.daemon.pid
-            before = set(os.listdir(f"/proc/{pid}/task"))
+            before, used, all_used = set(os.listdir(f"/proc/{pid}/task")), device_time(pid, pid), processor_time(pid)
             program = stage.start([build.fuzz("costly"), *words], client=False).wait_for("ready", 30)
             # The first that came is the device's; those behind it close what was left.
             thread = pid if words else min(set(os.listdir(f"/proc/{pid}/task")) - before, key=lambda it: begun_at(pid, it))
-            used, all_used = device_time(pid, thread), processor_time(pid)
-            all_took = closing(stage) - all_used
-            took = device_time(pid, thread) - used
+            all_took = used_for_closing(pid, all_used)
+            took = device_time(pid, thread) - (used if words else 0)
         told.append(f"{whose} took {took * 1e3:.1f} of {all_took * 1e3:.0f} ms")
         expect(all_took > MUCH and took < LETTING_GO * all_took, f"{told[-1]} to let go of what it was left")
     return f"{', '.join(told)} to let go of much memory, and of sockets with many connections"
