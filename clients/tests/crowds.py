@@ -28,7 +28,7 @@ MOST_ENDING = 20e3
 ROUNDS = 5
 # somebody's users: whose they are, the first, and how many; and how many turns of all there may be for each of so many calls beside them
 OWNER, FIRST, PERSONS = 1234567, 200000, 64
-MOST_TURNS, PERSONS_CALLS = 32, 1000
+MOST_TURNS, PERSONS_CALLS, PERSONS_ROUNDS = 32, 1000, 20
 # a turn takes at most so many microseconds of the processor's time, whatever is asked for, and a device's first calls more than so many;
 # costly turns of an account take at most such a part of the time, a third but for what is made before it is told
 LEAST_TURN_TIME, MOST_TURN_TIME, MOST_COSTLY = 10, 1000, 0.38
@@ -131,23 +131,22 @@ def slice_of(uid):
 def turns_for_a_call(build, program, words):
     """How many turns are given for each call of somebody beside so many users, at least: while he has no processor there are more."""
     found = []
-    while len(found) < ROUNDS and min(found, default=MOST_TURNS + 1) > MOST_TURNS:
-        found.append(turns_for_each(build, program, words))
-    return min(found)
-
-
-def turns_for_each(build, program, words):
     with Stage(build, daemon=program) as stage:
         let_others_in(stage)
         rings = stage.start([build.fuzz("rings"), "persons", str(PERSONS), DEVICE, *words], client=False).wait_for("ready", 30)
-        before = turns_given(stage, build)
-        stage.run([build.raw("latency"), "1"])
-        few = turns_given(stage, build)
-        stage.run([build.raw("latency"), str(1 + PERSONS_CALLS)])
-        many = turns_given(stage, build)
+        while len(found) < PERSONS_ROUNDS and min(found, default=MOST_TURNS + 1) > MOST_TURNS:
+            found.append(turns_for_each(stage, build))
         rings.kill()
         time.sleep(0.2)  # until nobody is in the control group
-        return ((many - few) - (few - before)) / PERSONS_CALLS
+    return min(found)
+
+
+def turns_for_each(stage, build):
+    before = turns_given(stage, build)
+    stage.run([build.raw("latency"), "1"])
+    few = turns_given(stage, build)
+    stage.run([build.raw("latency"), str(1 + PERSONS_CALLS)])
+    return (turns_given(stage, build) - few - (few - before)) / PERSONS_CALLS
 
 
 @test("raw persons")

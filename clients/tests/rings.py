@@ -221,7 +221,7 @@ KEEP_WAITING = "0x3"
 CALLS = sum(i % 8 == 1 for i in range(THREADS))
 # open files of one process, so many that the daemon has three in some of its 256 lists: a page of 16 ends in the midst of one
 OPENS = 600
-# what one of the services is called: it would be lines of its own, and clear a terminal
+# what the program of these threads is called, as none is that names itself: it would be lines of its own, and clear a terminal
 ODD = "\\\n\x1b[2Jproc 1"
 
 
@@ -292,11 +292,10 @@ def state(build):
     ring are told by name."""
     with Stage(build, journal=DEVICE, wide=True) as stage:
         manager = stage.manage()
-        odd = shutil.copy(build.manager("hello"), f"{stage.folder}/{ODD}")
-        running = [stage.start([build.manager("hello"), f"hello{i}"]).wait_for("ready") for i in range(SERVICES - 1)]
-        running.append(stage.start([odd, "odd"]).wait_for("ready"))
+        running = [stage.start([build.manager("hello"), f"hello{i}"]).wait_for("ready") for i in range(SERVICES)]
         other = {"RAW_DEVICE": "/dev/vndbinder"}
-        waiting = stage.start([build.raw("asleep"), str(THREADS)], environment=other).wait_for("ready", 30)
+        odd = shutil.copy(build.raw("asleep"), f"{stage.folder}/{ODD}")
+        waiting = stage.start([odd, str(THREADS)], environment=other).wait_for("ready", 30)
         comes(lambda: all("loops, waits" in it[0] for _, it in threads_of(asked(build, stage, ["--state", DEVICE]))[1].values()))
         told, counted = (asked(build, stage, words) for words in (["--state", DEVICE], ["--stats", DEVICE]))
         opener = stage.start([build.raw("opens"), str(OPENS)], environment={"RAW_DEVICE": "/dev/hwbinder"}).wait_for("ready", 30)
