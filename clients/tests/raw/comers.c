@@ -1,8 +1,8 @@
 /* SPDX-License-Identifier: Apache-2.0 OR MIT */
 /*
- * comers COUNT [OPENS]: what it takes to open the device, map a window and close it beside so many processes that connect to the daemon and hang
- * up, over and over. Prints the median alone and, of so many (300), beside them in microseconds, and how much of the daemon's processor time an open takes
- * alone, and who hangs up while nobody opens.
+ * comers COUNT [OPENS]: what it takes to open the device, map a window and close it beside so many processes that connect to the daemon and
+ * hang up, over and over. Prints the median alone and, of so many (300), beside them in microseconds, and how much of the daemon's processor
+ * time an open takes alone, and who hangs up while nobody opens.
  */
 #include "raw.h"
 

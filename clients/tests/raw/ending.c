@@ -2,7 +2,8 @@
 /*
  * ending handles|deaths|calls COUNT: the longest call while a process ends that holds so many of another's objects, and has asked with
  * `deaths` to be told of their owner's death too, or that has so many one-way calls which it hasn't read. Prints how much of the daemon's
- * time one of them took until it was held, and `ended` with the longest call, in microseconds, once nothing is held any more, or after two seconds, and waits to be ended: the owner's end would take its time too.
+ * time one of them took until it was held, and `ended` with the longest call, in microseconds, once nothing is held any more, or after two
+ * seconds. It waits to be ended then: the owner's end would take its time too.
  * `ending owner COUNT` is the end of the owner, of whose objects another has asked to hear.
  */
 #include "raw.h"
