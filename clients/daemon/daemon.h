@@ -535,6 +535,8 @@ struct inbox {
     bool is_closed, is_to_stop;
 };
 
+#define LATEST_PLACES 64
+
 struct engine {
     struct daemon *daemon;
     char device[DEVICE_NAME_ROOM];
@@ -560,6 +562,7 @@ struct engine {
     bool has_read;            /* .. and whether one has emptied some */
     struct list reached;      /* processes that are to be looked at .. */
     struct list reached_threads; /* .. and threads */
+    struct thread *acting;    /* whose request is being answered: it is looked at behind all others, also where no step names it */
     struct list deferring;    /* callers that wait, whose list has the completion of their call still */
     uint32_t deferring_count;
     struct list resting;      /* all processes with threads that wait for whatever comes to the process */
@@ -588,6 +591,7 @@ struct engine {
     struct list processes;
     struct list by_pid[256];  /* processes by the pid that they have in the engine */
     uint32_t last_pid;        /* of those that are given where a process's own is taken */
+    struct process *by_place[LATEST_PLACES]; /* some, by the place of the step that has opened them (reach.c) */
 };
 
 /* Where nobody has the device open, and no journal is kept of it, it begins anew: no history, and no memory, is left of who has gone. */
@@ -792,6 +796,7 @@ struct process {
     gid_t egid;
     struct caller caller;
     uint32_t engine_pid;  /* 0: it has no window, and so isn't in the engine yet */
+    uint64_t opened;      /* else by the step at this place */
     struct window window;
     uint32_t thread_count;
     uint32_t max_threads, requested, started; /* for BR_SPAWN_LOOPER: the most threads, those asked for, those that came */
@@ -1023,6 +1028,8 @@ static inline bool reach_is_left(struct engine *engine)
 /* The thread, or who waits for what comes to the process, is to be looked at; NULL: nobody. */
 void reach_thread(struct thread *thread);
 void reach_process(struct process *process);
+/* It has ended in the engine. */
+void reach_forget(const struct process *process);
 /* Where the thread's next call or reply goes. */
 struct target reach_target(const struct thread *thread, bool is_reply, uint32_t handle);
 /* The size of the window that it goes to: the largest where that isn't known. */

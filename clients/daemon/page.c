@@ -317,9 +317,12 @@ static void cancel(struct thread *thread)
 /* What is asked for, once the thread has a seat and has given back what it wanted to. */
 static void run_asked(struct thread *thread, const struct page_request *request)
 {
+    struct engine *engine = thread->process->engine;
     thread->answer = (struct page_answer){0};
+    engine->acting = thread;
     int error = do_request(thread, request);
     answer_request(thread, error, request->flags);
+    engine->acting = NULL;
 }
 
 void page_rung(struct thread *thread)

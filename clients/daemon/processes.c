@@ -291,6 +291,7 @@ static int open_in_engine(struct process *process)
     int error = engine_open(engine, OWN_SEAT, pid, process->euid, (uint32_t)process->window.size);
     if (error || engine->answer.kind != HULLPIPPIN_OPENED)
         return error ? error : ENOMEM;
+    process->opened = engine->answer.from;
     if (process->detects_spam)
         error = engine_set_spam(engine, OWN_SEAT, true);
     if (error) {
@@ -571,6 +572,7 @@ static void exit_in_engine(struct process *process)
     }
     if (engine->manager == process)
         engine->manager = NULL;
+    reach_forget(process);
     list_remove(&process->in_bucket);
 }
 

@@ -37,11 +37,24 @@ static void reach_all(struct engine *engine)
     engine->looked_at_left = engine->looked_at_count;
 }
 
-/* The process that the step at a place has opened. NULL where it has ended. */
+/* The process that the step at a place has opened. NULL where it has ended. It is mostly one that was asked for before. */
 static struct process *process_at(struct engine *engine, uint64_t place)
 {
+    struct process **latest = &engine->by_place[place % LATEST_PLACES];
     hullpippin_process told;
-    return hullpippin_live_process(&engine->live, place, &told) ? process_of(engine, told.pid) : NULL;
+    if (*latest && (*latest)->opened == place)
+        return *latest;
+    struct process *process = hullpippin_live_process(&engine->live, place, &told) ? process_of(engine, told.pid) : NULL;
+    if (process)
+        *latest = process;
+    return process;
+}
+
+void reach_forget(const struct process *process)
+{
+    struct process **latest = &process->engine->by_place[process->opened % LATEST_PLACES];
+    if (*latest == process)
+        *latest = NULL;
 }
 
 static void reach_list(struct engine *engine, const hullpippin_todo_list *list)
@@ -98,7 +111,8 @@ void reach_after_step(struct engine *engine, uint32_t seat, bool is_read)
     }
     if (++engine->unasked >= UNASKED_MOST)
         ask_for_all(engine);
-    reach_thread(engine->lent[seat]);
+    if (engine->lent[seat] != engine->acting)
+        reach_thread(engine->lent[seat]);
 }
 
 bool reach_ask(struct engine *engine)

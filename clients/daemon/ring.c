@@ -50,6 +50,8 @@ static struct ring_slot *slot_of(const struct ring *ring, uint64_t place)
     return (struct ring_slot *)(void *)(ring->memory.at + RING_HEADING + place % RING_SLOTS * RING_SLOT);
 }
 
+static const char own_name[RING_COMM] = "hullpippind", nobody[RING_COMM];
+
 /* Writes into the slot whose step it was: the seat, and the client that the seat is lent to. */
 static void put_client(struct engine *engine, struct ring_slot *slot, const struct step *step)
 {
@@ -62,11 +64,13 @@ static void put_client(struct engine *engine, struct ring_slot *slot, const stru
         slot->tid = (uint32_t)thread->name.tid;
         slot->process = engine_pid;
         memcpy(slot->comm, thread->name.comm, sizeof slot->comm);
-    } else if (!step->seat) {
-        engine->ring.own_process = step->pid ? step->pid : engine->ring.own_process;
-        slot->pid = engine->ring.heading->daemon;
-        slot->process = engine->ring.own_process;
-        strcpy(slot->comm, "hullpippind");
+    } else {
+        const bool is_own = !step->seat;
+        engine->ring.own_process = is_own && step->pid ? step->pid : engine->ring.own_process;
+        slot->pid = is_own ? engine->ring.heading->daemon : 0;
+        slot->tid = 0;
+        slot->process = is_own ? engine->ring.own_process : 0;
+        memcpy(slot->comm, is_own ? own_name : nobody, sizeof slot->comm);
     }
 }
 
@@ -274,15 +278,13 @@ void ring_count_lent(struct ring *ring, uint32_t lent)
         set(&counts->most_lent, lent);
 }
 
-/* What a step doesn't tell is 0, but for the data. Field by field that takes half of what a call of memset does. */
+/* What a step may not tell is 0, but for the data. Field by field that takes half of what a call of memset does. */
 static void clear(struct ring_slot *slot)
 {
-    slot->seat = slot->pid = slot->tid = slot->process = 0;
-    slot->number = slot->kept = 0;
+    slot->kept = 0;
     slot->command = slot->handle = slot->code = slot->flags = slot->other = 0;
     slot->object_index = slot->euid = slot->limit = slot->returns = 0;
     slot->data_size = slot->offsets_size = slot->buffer = slot->pointer = slot->cookie = 0;
-    memset(slot->comm, 0, sizeof slot->comm);
 }
 
 static void put_other(struct engine *engine, struct ring_slot *slot, const struct step *step)

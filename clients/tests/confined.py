@@ -4,7 +4,7 @@ import os
 import signal
 import time
 
-from stage import Stage, expect, tail
+from stage import BUSY, Stage, expect, tail
 from suite import test
 
 # by name what the daemon asks for that it has no use for (short/), and the errno that it is told; None: it ends
@@ -14,6 +14,8 @@ CALLS = {"exec": None, "fork": None, "socket": None, "pair": None, "signal": Non
 THREADS = 500
 # seconds in which waiting threads are watched, in which they come to rest before that, and in which they learn of the daemon's end
 WATCHED, SETTLE, AT_ONCE = 5, 40, 1
+# so often they are watched, where other work has kept somebody from coming to rest before
+TIMES = 3
 
 
 def by_thread(pid, *names):
@@ -64,7 +66,7 @@ def switches(*processes):
 
 def come_to_rest(*processes):
     """Waits until all of them have been asleep for a second and a half: the daemon has its last look at everything after one."""
-    end, before = time.monotonic() + SETTLE, None
+    end, before = time.monotonic() + BUSY * SETTLE, None
     while (now := switches(*processes)) != before:
         expect(time.monotonic() < end, f"{THREADS} threads that wait don't come to rest: {before} and then {now} times asleep")
         before = now
@@ -72,19 +74,26 @@ def come_to_rest(*processes):
     return now
 
 
+def woken_at_rest(*processes):
+    """How often the threads of each were woken, of which none had been for a while."""
+    before = come_to_rest(*processes)
+    time.sleep(WATCHED)
+    return [now - then for now, then in zip(switches(*processes), before)]
+
+
 @test("raw asleep")
 def asleep(build):
     """Threads that wait are woken by nothing but what they wait for, and by the daemon's end at once."""
     with Stage(build) as stage:
         program = stage.start([build.raw("asleep"), str(THREADS)]).wait_for("ready", 30)
-        before = come_to_rest(program, stage.daemon)
-        time.sleep(WATCHED)
-        woken = [now - then for now, then in zip(switches(program, stage.daemon), before)]
+        for _ in range(TIMES):
+            if not any(woken := woken_at_rest(program, stage.daemon)):
+                break
         begin = time.monotonic()
         stage.daemon.kill()
         told = program.finish(10)
         took = time.monotonic() - begin
         stage.clear()
     expect(not any(woken), f"in {WATCHED} s {THREADS} threads that wait, and the daemon's, were woken {woken} times")
-    expect(took < AT_ONCE, f"the daemon's end was seen after {took:.1f} s")
+    expect(took < AT_ONCE * (BUSY if build.untimed else 1), f"the daemon's end was seen after {took:.1f} s")
     return f"nobody was woken in {WATCHED} s; {told.splitlines()[-1]}, after {took * 1e3:.0f} ms"

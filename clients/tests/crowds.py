@@ -7,8 +7,8 @@ import subprocess
 import tempfile
 import time
 
-from raw_tests import DEVICE, counts
-from stage import Stage, expect, open_files, resident
+from raw_tests import DEVICE, counts, give_turns, stats, turns_given
+from stage import Stage, comes, expect, open_files, resident
 from suite import figures, test
 
 OTHER_DEVICE = "/dev/hwbinder"
@@ -28,18 +28,24 @@ MOST_ENDING = 20e3
 ROUNDS = 5
 # somebody's users: whose they are, the first, and how many; and how many turns of all there may be for each of so many calls beside them
 OWNER, FIRST, PERSONS = 1234567, 200000, 64
-MOST_TURNS, PERSONS_CALLS = 32, 1000
+MOST_TURNS, PERSONS_CALLS, PERSONS_ROUNDS = 32, 1000, 20
 # a turn takes at most so many microseconds of the processor's time, whatever is asked for, and a device's first calls more than so many;
 # costly turns of an account take at most such a part of the time, a third but for what is made before it is told
 LEAST_TURN_TIME, MOST_TURN_TIME, MOST_COSTLY = 10, 1000, 0.38
 HEAVY_ROUNDS = 5
-# What a turn takes of a processor is so many times as much where that is a slow one, or its other half is busy. The price of a parcel of
-# 8,192 objects, or of an end that isn't divided, is still above the bound.
-SLOW_MACHINE = 3
-# how much a process holds that ends, and how long a turn of its end may be, in microseconds
-HELD, MOST_END_TIME, ENDING_ROUNDS = 32768, 5000, 4
+# of so many processes that send some have to wait, and a turn may be as long as it is
+MANY_SENDERS = ["48"]
+# What a turn takes of a slow processor, or of one whose other half is busy, is more. Where times aren't judged it is measured in what the
+# daemon takes in the same run for one object, of small parcels and until it is gone again: a parcel of 256 is 110 to 150 of these,
+# and one of 8,192 would be thousands.
+MOST_TURN_OBJECTS = 512
+# how much a process holds that ends, and how long a turn of its end may be, in microseconds, or in what it took for one of them to be held:
+# the end is some 330 of these, and was thousands where it wasn't divided
+HELD, MOST_END_TIME, MOST_END_HELD, ENDING_ROUNDS = 32768, 5000, 1000, 4
 # processes that connect and hang up; each time takes at most such a part of the daemon's time for an open
 COMERS, MOST_HANGUP = "8", 0.125
+# so many open it beside them where nobody judges how long that takes
+FEW_OPENS = "10"
 # descriptors of a device that somebody has opened: an epoll, a bell, and its latest steps
 OF_DEVICE = 3
 # so much more memory than before may the daemon have after a rest
@@ -125,23 +131,22 @@ def slice_of(uid):
 def turns_for_a_call(build, program, words):
     """How many turns are given for each call of somebody beside so many users, at least: while he has no processor there are more."""
     found = []
-    while len(found) < ROUNDS and min(found, default=MOST_TURNS + 1) > MOST_TURNS:
-        found.append(turns_for_each(build, program, words))
-    return min(found)
-
-
-def turns_for_each(build, program, words):
     with Stage(build, daemon=program) as stage:
         let_others_in(stage)
         rings = stage.start([build.fuzz("rings"), "persons", str(PERSONS), DEVICE, *words], client=False).wait_for("ready", 30)
-        before = turns_given(stage, build)
-        stage.run([build.raw("latency"), "1"])
-        few = turns_given(stage, build)
-        stage.run([build.raw("latency"), str(1 + PERSONS_CALLS)])
-        many = turns_given(stage, build)
+        while len(found) < PERSONS_ROUNDS and min(found, default=MOST_TURNS + 1) > MOST_TURNS:
+            found.append(turns_for_each(stage, build))
         rings.kill()
         time.sleep(0.2)  # until nobody is in the control group
-        return ((many - few) - (few - before)) / PERSONS_CALLS
+    return min(found)
+
+
+def turns_for_each(stage, build):
+    before = turns_given(stage, build)
+    stage.run([build.raw("latency"), "1"])
+    few = turns_given(stage, build)
+    stage.run([build.raw("latency"), str(1 + PERSONS_CALLS)])
+    return (turns_given(stage, build) - few - (few - before)) / PERSONS_CALLS
 
 
 @test("raw persons")
@@ -176,18 +181,9 @@ def crowded(build):
     return "; ".join(told)
 
 
-def stats(stage, build):
-    words = [build.daemon, "--socket", stage.socket, "--stats", DEVICE]
-    return subprocess.run(words, capture_output=True, text=True, timeout=30, env={**os.environ, **build.environment}).stdout
-
-
-def most_time(build, microseconds):
-    """A bound on a turn's time: the wanted one where times are judged, else one that a slow machine keeps too."""
-    return microseconds * (SLOW_MACHINE if build.untimed else 1)
-
-
-def turns_given(stage, build):
-    return int(re.search(r"^turns: (\d+)", stats(stage, build), re.M)[1])
+def is_short(build, took, most, each, most_of_each):
+    """Whether a turn took no more microseconds than it may; where times aren't judged, no more than so many times what one thing takes."""
+    return took <= (each * most_of_each if build.untimed else most)
 
 
 def asked(stage, build):
@@ -199,19 +195,19 @@ def asked(stage, build):
 
 
 def heavy(build, words):
-    """The best of some runs beside processes that send objects: the longest turn, what part of the time was in costly turns, how many
-    parcels were put off, and what a call took, told."""
-    runs = []
+    """The first good one of some runs beside processes that send objects, or the last: whether the longest turn was short, how long that
+    was, what part of the time was in costly turns, how many parcels were put off, and what a call took, told."""
     for _ in range(HEAVY_ROUNDS):
         with Stage(build) as stage:
             let_others_in(stage)
             told = stage.run([build.raw("heavy"), *words])
             longest, costly, put_off = asked(stage, build)
         found = figures(told)
-        runs.append((longest, costly / 1e6 / found["seconds"], put_off, found["beside"] / found["alone"], told))
-        if longest <= most_time(build, MOST_TURN_TIME) and runs[-1][3] <= HOSTILE_TIMES:
+        times, part = found["beside"] / found["alone"], costly / 1e6 / found["seconds"]
+        is_good = is_short(build, longest, MOST_TURN_TIME, found["object"], MOST_TURN_OBJECTS) or words[1:] == MANY_SENDERS
+        if is_good and (build.untimed or times <= HOSTILE_TIMES):
             break
-    return min(runs)
+    return is_good, longest, part, put_off, times, told
 
 
 @test("raw heavy parcels", plain_only=True)
@@ -219,23 +215,24 @@ def heavy_parcels(build):
     """However many objects a process sends, no turn takes over a millisecond, and no account has costly turns for more than a third of the
     time; who calls and sleeps notices little of it."""
     lines = []
-    for words in (["8192"], ["256"], *([["256", "1", NOBODY]] if os.geteuid() == 0 else []), ["256", "48"]):
-        longest, part, put_off, times, told = heavy(build, words)
+    for words in (["8192"], ["256"], *([["256", "1", NOBODY]] if os.geteuid() == 0 else []), ["256", *MANY_SENDERS]):
+        is_good, longest, part, put_off, times, told = heavy(build, words)
         lines.append(f"{' '.join(words)}: {told}; {longest} us in a turn, {part:.2f} of the time in costly ones, {put_off} put off")
-        expect(words[1:] == ["48"] or LEAST_TURN_TIME < longest <= most_time(build, MOST_TURN_TIME), lines[-1])
+        expect(LEAST_TURN_TIME < longest and is_good, lines[-1])
         expect(part <= MOST_COSTLY, lines[-1])
-        expect(put_off or words[1:] != ["48"], lines[-1])
+        expect(put_off or words[1:] != MANY_SENDERS, lines[-1])
         expect(build.untimed or times <= HOSTILE_TIMES, lines[-1])
     return "; ".join(lines)
 
 
 def longest_end(build, kind):
-    """The longest turn, in microseconds, in which the daemon saw to the end of a process that had much."""
+    """The longest turn, in microseconds, in which the daemon saw to the end of a process that had much; what it took for one of these to be
+    held; and the longest call meanwhile."""
     with Stage(build) as stage:
         told = stage.start([build.raw("ending"), kind, str(HELD)]).wait_for("ended", 100).printed()
         found = re.search(r"by which they end: (\d+) us", stats(stage, build))
     expect(found, "--stats tells nothing of ends")
-    return int(found[1]), told.strip()
+    return int(found[1]), figures(told)["each"], figures(told)["ended"]
 
 
 @test("raw ends in parts", plain_only=True)
@@ -243,13 +240,12 @@ def ends_in_parts(build):
     """Who holds many objects, or has asked to hear of as many deaths, gives them back some at a time as it ends."""
     lines = []
     for kind in ("handles", "deaths"):
-        longest, told = longest_end(build, kind)
         for _ in range(ENDING_ROUNDS):
-            if longest <= most_time(build, MOST_END_TIME):
+            longest, each, call = longest_end(build, kind)
+            if is_good := is_short(build, longest, MOST_END_TIME, each, MOST_END_HELD):
                 break
-            longest, told = min((longest, told), longest_end(build, kind))
-        lines.append(f"{HELD} {kind}: {longest} us in a turn, the longest call {told.split()[-1]} us")
-        expect(longest <= most_time(build, MOST_END_TIME), lines[-1])
+        lines.append(f"{HELD} {kind}: {longest} us in a turn, {each} for one to be held, the longest call {call} us")
+        expect(is_good, lines[-1])
     return "; ".join(lines)
 
 
@@ -258,7 +254,7 @@ def comers(build):
     """Who connects and hangs up takes little of the daemon's time, beside what an open takes, and of others' opens."""
     for _ in range(ROUNDS):
         with Stage(build) as stage:
-            told = stage.run([build.raw("comers"), COMERS])
+            told = stage.run([build.raw("comers"), COMERS, *([FEW_OPENS] if build.untimed else [])])
         found = figures(told)
         part, times = found["hangup"] / found["open"], found["beside"] / found["alone"]
         if part <= MOST_HANGUP and (build.untimed or times <= HOSTILE_TIMES):
@@ -274,9 +270,8 @@ def refused_parcels(build):
     with Stage(build) as stage:
         stage.manage()
         stage.start([build.fuzz("rings"), "parcels", "4", DEVICE], client=False).wait_for("ready")
-        time.sleep(1)
+        give_turns(stage, build)
         found = counts(stage)
-    expect(found["turns"] > 1000, f"there were only {found['turns']} turns")
     expect(found["copied"] < 4 << 20, f"{found['copied']} bytes were copied")
     return f"{found['turns']} turns, {found['copied']} bytes copied"
 
@@ -326,9 +321,8 @@ def rest(build):
         time.sleep(1.5)
         before = resident(stage.daemon.pid)
         stage.run([build.raw("latency"), "100", "900000"])
-        most, end = resident(stage.daemon.pid), time.monotonic() + 5
-        while resident(stage.daemon.pid) > before + REST_KIB and time.monotonic() < end:
-            time.sleep(0.05)
+        most = resident(stage.daemon.pid)
+        comes(lambda: resident(stage.daemon.pid) <= before + REST_KIB)
         left = resident(stage.daemon.pid)
     expect(left <= before + REST_KIB, f"the daemon keeps {left} KiB after {before}")
     return f"{before} KiB, {most} with large parcels, {left} after a second"
@@ -350,9 +344,7 @@ def shares(build):
         hoarders(stage, build, ["connections", "30000"])
         held = open_files(stage.daemon.pid)
         stage.run([build.raw("nested")])
-        end = time.monotonic() + 12
-        while open_files(stage.daemon.pid) > before + OF_DEVICE and time.monotonic() < end:
-            time.sleep(0.1)
+        comes(lambda: open_files(stage.daemon.pid) <= before + OF_DEVICE, 12)
         left = open_files(stage.daemon.pid)
         expect(left <= before + OF_DEVICE, f"the daemon keeps {left} descriptors for who opens nothing, {before} before")
         told.append(f"{held} descriptors for connections that opened nothing, {left} after seconds")

@@ -12,13 +12,13 @@ import time
 from contextlib import contextmanager
 
 from builds import CLIENTS
-from stage import expect, tail
+from stage import BUSY, expect, tail
 from suite import test
 
 # users that no machine has, with whom root plays: others than those of a run beside this one, since a user has one folder in /tmp
 STRANGER, OTHER = 4200000000 + os.getpid(), 4210000000 + os.getpid()
 
-SECONDS = 10
+SECONDS = BUSY * 10
 
 
 @contextmanager
@@ -179,8 +179,8 @@ def given(build, where):
         os.unlink(path)
 
 
-# seconds that a program may take that finds no daemon where somebody keeps it waiting
-SOON = 3
+# seconds that a program may take that finds no daemon where somebody keeps it waiting, at its best of some tries
+SOON, TRIES = 3, 3
 
 
 def busy_at(path):
@@ -197,7 +197,7 @@ def busy_at(path):
 
 
 # .. and one that has the library's patience, on a busy machine
-LATE = 20
+LATE = BUSY * 20
 
 
 def untaken(build, where):
@@ -212,10 +212,12 @@ def untaken(build, where):
 
 def unreached(build, why, env, **how):
     """No daemon is reached, and that is known soon."""
-    begin = time.monotonic()
-    expect(not reaches(build, env=env, **how), why)
-    took = time.monotonic() - begin
-    expect(took < SOON, f"{why}: it took {took:.1f} s")
+    took = []
+    while len(took) < TRIES and min(took, default=SOON) >= SOON:
+        begin = time.monotonic()
+        expect(not reaches(build, env=env, **how), why)
+        took.append(time.monotonic() - begin)
+    expect(min(took) < SOON, f"{why}: it took {min(took):.1f} s")
 
 
 def of_liars(build, where):

@@ -18,7 +18,7 @@ from contextlib import contextmanager
 from crowds import let_others_in
 from journals import Journal, Times, Who, attached
 from raw_tests import DEVICE, refuses
-from stage import NARROW, Stage, expect, tail
+from stage import BUSY, NARROW, Stage, comes, expect, tail
 from suite import figures, test
 
 # seconds after which a step is in the file, as the daemon promises, and so long before a kill was answered what surely is there
@@ -183,11 +183,9 @@ def printed_recording(build):
         with open(f"{folder}/printed", "wb") as file:
             words = [build.daemon, "--socket", socket, "--journal", path]
             with subprocess.Popen(words, stdout=file, stderr=subprocess.PIPE, env={**os.environ, **build.environment}) as daemon:
-                end = time.monotonic() + 10
-                while not os.path.exists(socket) and daemon.poll() is None and time.monotonic() < end:
-                    time.sleep(0.01)
+                comes(lambda: os.path.exists(socket) or daemon.poll() is not None)
                 daemon.terminate()
-                said = daemon.communicate(timeout=10)[1].decode()
+                said = daemon.communicate(timeout=BUSY * 10)[1].decode()
         journal = Journal(contents(f"{folder}/printed"))
         there = sorted(os.listdir(folder))
     expect(daemon.returncode == 0 and journal.is_whole() and not journal.entries, f"it printed {journal.told()}: {tail(said)}")
@@ -256,7 +254,7 @@ def recorded_in_time(build):
 
 def wait_for_open(process):
     """A program's first wait is the one for who opens the other end of the pipe that it reads."""
-    end = time.monotonic() + 10
+    end = time.monotonic() + BUSY * 10
     words = []
     while words[:1] != ["S"]:
         expect(time.monotonic() < end, f"{process.args[0]} doesn't wait for its pipe")
@@ -283,10 +281,9 @@ def piped_recording(build):
                         if not is_read_on:
                             reader.kill()
                             stage.run([build.raw("nested")])
-                            time.sleep(IN_TIME)
-                            broke_off_once(stage.daemon.printed(), "Broken pipe")
+                            breaks_off(stage, "Broken pipe")
                         said = end_with(stage, 0 if is_read_on else 1, 10)
-                        expect(not is_read_on or reader.wait(10) == 0, "cat reads on")
+                        expect(not is_read_on or reader.wait(BUSY * 10) == 0, "cat reads on")
                         found = entries(build, read)
                         expect(not is_read_on or found == steps_of(stage), f"{found} of {steps_of(stage)} steps came: {tail(said)}")
                 finally:
@@ -352,7 +349,7 @@ def share(build):
         let_others_in(stage)
         others = ["4001"] if not os.geteuid() else []
         stage.start([build.fuzz("rings"), "threads", "8", DEVICE, *others], client=False).wait_for("ready", 30)
-        end = time.monotonic() + 90
+        end = time.monotonic() + BUSY * 90
         while "records more than its share" not in stage.daemon.printed():
             expect(stage.daemon.runs() and time.monotonic() < end, f"nobody has to wait: {tail(stage.daemon.printed())}")
             time.sleep(0.1)
@@ -395,7 +392,7 @@ def unread_share(build):
         let_others_in(stage)
         stuff(end)
         stage.start([build.fuzz("rings"), "threads", "8", DEVICE, "4001"], client=False).wait_for("ready", 30)
-        patience = time.monotonic() + 90
+        patience = time.monotonic() + BUSY * 90
         while os.path.getsize(stage.journal) < LEAST_SHARE or grown(stage, 1) > TIMES * BOUND / PART:
             expect(time.monotonic() < patience, f"nobody has to wait after {os.path.getsize(stage.journal)} bytes")
         calls = figures(stage.run([build.fuzz("witness"), "2"], 30))["calls"]
@@ -410,6 +407,11 @@ def end_with(stage, status, seconds=30):
     stage.is_over = True
     os.kill(stage.daemon.pid, signal.SIGTERM)
     return stage.daemon.finish(seconds, (status,))
+
+
+def breaks_off(stage, why):
+    comes(lambda: "broke off: " in stage.daemon.printed())
+    broke_off_once(stage.daemon.printed(), why)
 
 
 def broke_off_once(said, why):
@@ -469,8 +471,7 @@ def full_recording(build):
     with Stage(build, journal=DEVICE) as stage:
         resource.prlimit(stage.daemon.pid, resource.RLIMIT_FSIZE, (FULL, FULL))
         told = stage.run([build.raw(HEAVY[0]), *HEAVY[1:]], 30)
-        time.sleep(IN_TIME)
-        broke_off_once(stage.daemon.printed(), "File too large")
+        breaks_off(stage, "File too large")
         stage.run([build.raw("nested")])
         broke_off_once(end_with(stage, 1), "File too large")
         found = entries(build, stage.journal)
@@ -486,8 +487,7 @@ def untaken_recording(build):
     """A disk that takes nothing of a write, and says no more than that, breaks the recording off."""
     with Stage(build, journal=DEVICE, daemon=build.short, daemon_environment={"SHORT_OF_DISK": "1"}) as stage:
         stage.run([build.raw("nested")])
-        time.sleep(IN_TIME)
-        broke_off_once(stage.daemon.printed(), "nothing of a write was taken")
+        breaks_off(stage, "nothing of a write was taken")
         broke_off_once(end_with(stage, 1, STUCK_END), "nothing of a write was taken")
         found = entries(build, stage.journal)
         expect(found == 0, f"{found} entries are in what was never written")
@@ -501,8 +501,7 @@ def uncounted_recording(build):
     few = {"SHORT_OF_ENTRIES": "1", "BEGIN_AT": "1"}
     with Stage(build, journal=DEVICE, daemon=build.short, daemon_environment=few) as stage:
         stage.run([build.raw("oneway")])
-        time.sleep(IN_TIME)
-        broke_off_once(stage.daemon.printed(), UNCOUNTED)
+        breaks_off(stage, UNCOUNTED)
         stage.run([build.raw("nested")])
         broke_off_once(end_with(stage, 1), UNCOUNTED)
         found, made = entries(build, stage.journal), steps_of(stage)

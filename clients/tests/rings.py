@@ -18,7 +18,7 @@ from collections import Counter, namedtuple
 from journals import Journal, Who
 from raw_tests import DEVICE
 from recordings import contents, neighbours
-from stage import Failed, Stage, expect, tail
+from stage import BUSY, Failed, Stage, comes, expect, tail
 from suite import figures, test
 
 # what `--state` prints last, of an account, of a user or of a process
@@ -176,7 +176,7 @@ def ring_counts(build):
         path = f"{stage.folder}/slots"
         stage.manage()
         stage.run([build.raw("services"), "20"])
-        time.sleep(0.5)
+        expect(comes(lambda: ", 1 processes," in asked(build, stage, ["--stats", DEVICE])), "others than the manager are there still")
         before = time.time_ns() - time.monotonic_ns()
         stage.run([build.raw("follow"), DEVICE, path, "0"], client=False)
         slots, heading, counts = read_ring(path)
@@ -220,14 +220,14 @@ KEEP_WAITING = "0x3"
 CALLS = sum(i % 8 == 1 for i in range(THREADS))
 # open files of one process, so many that the daemon has three in some of its 256 lists: a page of 16 ends in the midst of one
 OPENS = 600
-# what one of the services is called: it would be lines of its own, and clear a terminal
+# what the program of these threads is called, as none is that names itself: it would be lines of its own, and clear a terminal
 ODD = "\\\n\x1b[2Jproc 1"
 
 
 def asked(build, stage, words):
     """What a daemon tells the program that asks it."""
     environment = {**os.environ, **build.environment, "HULLPIPPIN_SOCKET": stage.socket}
-    done = subprocess.run([build.daemon, *words], env=environment, capture_output=True, text=True, timeout=20)
+    done = subprocess.run([build.daemon, *words], env=environment, capture_output=True, text=True, timeout=BUSY * 20)
     expect(done.returncode == 0, f"{words}: {tail(done.stderr)}")
     return done.stdout
 
@@ -270,7 +270,7 @@ def things_of(told, kind):
 
 def wait_for_calls(build, stage, program):
     """The lines of a program's threads once all its calls are on their way, or after some seconds; and all threads of the device."""
-    end = time.monotonic() + 10
+    end = time.monotonic() + BUSY * 10
     while True:
         _, threads = threads_of(asked(build, stage, ["--state", "/dev/vndbinder"]))
         lines = [it[0] for pid, it in threads.values() if pid == program.pid]
@@ -291,11 +291,11 @@ def state(build):
     ring are told by name."""
     with Stage(build, journal=DEVICE, wide=True) as stage:
         manager = stage.manage()
-        odd = shutil.copy(build.manager("hello"), f"{stage.folder}/{ODD}")
-        running = [stage.start([build.manager("hello"), f"hello{i}"]).wait_for("ready") for i in range(SERVICES - 1)]
-        running.append(stage.start([odd, "odd"]).wait_for("ready"))
+        running = [stage.start([build.manager("hello"), f"hello{i}"]).wait_for("ready") for i in range(SERVICES)]
         other = {"RAW_DEVICE": "/dev/vndbinder"}
-        waiting = stage.start([build.raw("asleep"), str(THREADS)], environment=other).wait_for("ready", 30)
+        odd = shutil.copy(build.raw("asleep"), f"{stage.folder}/{ODD}")
+        waiting = stage.start([odd, str(THREADS)], environment=other).wait_for("ready", 30)
+        comes(lambda: all("loops, waits" in it[0] for _, it in threads_of(asked(build, stage, ["--state", DEVICE]))[1].values()))
         told, counted = (asked(build, stage, words) for words in (["--state", DEVICE], ["--stats", DEVICE]))
         opener = stage.start([build.raw("opens"), str(OPENS)], environment={"RAW_DEVICE": "/dev/hwbinder"}).wait_for("ready", 30)
         opened = re.findall(rf"^proc {opener.pid} opens: .*?(?:, in the history (\d+))?$", asked(build, stage, ["--state", "/dev/hwbinder"]), re.M)
@@ -360,7 +360,7 @@ def told_by(build, folder, words, answers, memory=None, patience=20):
         answering = threading.Thread(target=answer_all, args=(listener, answers, memory), daemon=True)
         answering.start()
         done = subprocess.run([build.daemon, *words, "--socket", path], env={**os.environ, **build.environment}, capture_output=True, text=True,
-                              timeout=patience)
+                              timeout=BUSY * patience)
         answering.join(20)
     os.unlink(path)
     if memory is not None:
@@ -392,7 +392,7 @@ def ring_lies(build):
     # on a busy machine so many pages take longer than all may
     expect(on_and_on[0] == 1 and (NO_DAEMON in on_and_on[1] or TOO_SLOW in on_and_on[1]), f"pages without end: {on_and_on}")
     for words in (["--stats", DEVICE, "--state", DEVICE], ["--look", "--stats", DEVICE], ["--look", "--state", DEVICE]):
-        done = subprocess.run([build.daemon, *words], env={**os.environ, **build.environment}, capture_output=True, text=True, timeout=20)
+        done = subprocess.run([build.daemon, *words], env={**os.environ, **build.environment}, capture_output=True, text=True, timeout=BUSY * 20)
         expect(done.returncode == 2 and "usage" in done.stderr, f"{words}: {done.returncode}, {tail(done.stderr)}")
     return f"{len(told) + 1} lies are seen through, and two questions at once are none"
 
@@ -400,7 +400,7 @@ def ring_lies(build):
 # so many seconds whoever asks waits for a connection or an answer (../address.h), and for all pages (asking.c, and as short.c has it)
 PATIENCE, WHOLE, SHORT_WHOLE = 5, 60, 3
 # what a question may take beyond, on a busy machine
-LEEWAY = 15
+LEEWAY = 30
 QUESTIONS = (["--look"], ["--stats", DEVICE], ["--state", DEVICE])
 
 
@@ -473,7 +473,7 @@ def as_user(user):
 def look(programs, path, user):
     """What a user is told who wants to look, by programs of copies that all may run."""
     daemon, follow = programs
-    how = {"env": {**os.environ, "HULLPIPPIN_SOCKET": path}, "capture_output": True, "text": True, "timeout": 20, **as_user(user)}
+    how = {"env": {**os.environ, "HULLPIPPIN_SOCKET": path}, "capture_output": True, "text": True, "timeout": BUSY * 20, **as_user(user)}
     done = subprocess.run([follow, DEVICE, "/dev/null", "0"], **how)
     asked = subprocess.run([daemon, "--state", DEVICE, "--socket", path], **how)
     may = (done.returncode, asked.returncode) == (0, 0)
@@ -497,13 +497,11 @@ def ring_users(build):
             words = [programs[0], "--socket", path, "--mode", "666"]
             with subprocess.Popen(words, stderr=subprocess.PIPE, **as_user(owner)) as daemon:
                 try:
-                    end = time.monotonic() + 10
-                    while not os.path.exists(path) and time.monotonic() < end:
-                        time.sleep(0.01)
+                    comes(lambda: os.path.exists(path))
                     told[owner] = [look(programs, path, user) for user in (0, NOBODY, OTHER)]
                 finally:
                     daemon.terminate()
-                    said = daemon.communicate(timeout=10)[1].decode()
+                    said = daemon.communicate(timeout=BUSY * 10)[1].decode()
             expect(daemon.returncode == 0, f"the daemon ended with {daemon.returncode}: {tail(said)}")
     no = f"no steps: EPERM, hullpippind: {DEVICE}: Operation not permitted"
     expect(told == {0: ["ready", no, no], NOBODY: ["ready", "ready", no]}, f"{told}")

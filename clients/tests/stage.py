@@ -15,6 +15,8 @@ from journals import Journal
 
 # seconds that a program is waited for, where nothing else is said
 PATIENCE = 60
+# whatever is waited for has so many times as long as it should take: a machine that does much else takes its time
+BUSY = 4
 
 
 class Failed(Exception):
@@ -51,20 +53,20 @@ class Process:
 
     def wait_for(self, text, seconds=10, times=1):
         """Waits until it has printed a text so often."""
-        end = time.monotonic() + seconds
+        end = time.monotonic() + BUSY * seconds
         while self.printed().count(text) < times:
             expect(self.runs() or self.printed().count(text) >= times, f"{self.name()} ended: {tail(self.printed())}")
-            expect(time.monotonic() < end, f"{self.name()} printed no {text!r} in {seconds} s: {tail(self.printed())}")
+            expect(time.monotonic() < end, f"{self.name()} printed no {text!r} in {BUSY * seconds} s: {tail(self.printed())}")
             time.sleep(0.005)
         return self
 
     def finish(self, seconds=PATIENCE, statuses=(0,)):
         """Waits until it ends, which has to be with 0 or what is said: what it printed."""
         try:
-            status = self.process.wait(seconds)
+            status = self.process.wait(BUSY * seconds)
         except subprocess.TimeoutExpired:
             self.kill()
-            raise Failed(f"{self.name()} took over {seconds} s: {tail(self.printed())}") from None
+            raise Failed(f"{self.name()} took over {BUSY * seconds} s: {tail(self.printed())}") from None
         expect(status in statuses, f"{self.name()} ended with {status}: {tail(self.printed())}")
         return self.printed().strip()
 
@@ -79,6 +81,16 @@ class Process:
         if self.process.returncode is None:
             self.signal(signal.SIGKILL)
             self.process.wait()
+
+
+def comes(condition, seconds=10):
+    """Whether something comes to be so, which is waited for."""
+    end = time.monotonic() + BUSY * seconds
+    while not condition():
+        if time.monotonic() > end:
+            return False
+        time.sleep(0.05)
+    return True
 
 
 def tail(text, lines=3):
@@ -142,7 +154,7 @@ class Stage:
 
     def __enter__(self):
         try:
-            end = time.monotonic() + 10
+            end = time.monotonic() + BUSY * 10
             while not (os.path.exists(self.socket) if self.is_bare else self.listens()):
                 expect(self.daemon.runs() and time.monotonic() < end, f"no daemon: {tail(self.daemon.printed())}")
                 time.sleep(0.005)

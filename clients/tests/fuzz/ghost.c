@@ -13,7 +13,6 @@
 #include <unistd.h>
 
 #define DEVICE "/dev/vndbinder"
-#define SECONDS 2
 
 static bool becomes_manager(struct hostile *hostile)
 {
@@ -39,7 +38,7 @@ static void send_connection(void *with)
     uint32_t count = 1;
     CHECK(hostile_give(sender.link, &count, sizeof count, parents->control), "can't send a descriptor");
     bool is_answered = hostile_write(&sender, &call, sizeof call, 256, 1);
-    for (int i = 0; i < 5000 && !is_answered; i++, usleep(1000))
+    for (int i = 0; i < RAW_PATIENCE && !is_answered; i++, usleep(1000))
         is_answered = atomic_load(&sender.page->state) == PAGE_ANSWERED;
     uint32_t told;
     memcpy(&told, sender.page->returns + sizeof told, sizeof told);
@@ -62,7 +61,7 @@ static void inherit(struct hostile *heir)
     double start = raw_now();
     CHECK(hostile_begin(heir, DEVICE), "no daemon");
     while (!becomes_manager(heir)) {
-        CHECK(raw_now() - start < SECONDS * 1e6, "the dead one is the context manager still");
+        CHECK(raw_now() - start < RAW_PATIENCE * 1e3, "the dead one is the context manager still");
         usleep(1000);
     }
 }

@@ -25,9 +25,9 @@
 #define DEVICE "/dev/binder"
 #define FILES 20
 #define LOCAL 100
-#define LOCAL_MS 3000
+#define LOCAL_MS 10000
 #define NOBODY 65534
-#define SECONDS 30
+#define SECONDS 100
 #define ROOM (1 << 17)
 
 enum { FILE_NODE = 2 };

@@ -121,7 +121,7 @@ static int64_t attack(uid_t before, char *program)
     pid_t opener = start(before, starts[0], results[1], readies[1], program);
     await(readies[0]);
     if (program)
-        for (int i = 0; i < 200 && look_at(opener).st_uid != 0; i++)
+        for (int i = 0; i < 2000 && look_at(opener).st_uid != 0; i++)
             usleep(10000);
     if (program)
         CHECK(look_at(opener).st_uid == 0, "%s is no set-uid program here", program);
@@ -145,7 +145,7 @@ static int64_t attack_group(char *program)
         become(&hostile, SOMEBODY, SOMEBODY);
         if (!fork()) {
             prctl(PR_SET_PDEATHSIG, SIGKILL);
-            for (int i = 0; i < 200 && look_at(getppid()).st_gid == SOMEBODY; i++)
+            for (int i = 0; i < 2000 && look_at(getppid()).st_gid == SOMEBODY; i++)
                 usleep(10000);
             CHECK(look_at(getppid()).st_gid == 0, "%s is no set-gid program here", program);
             int64_t who = told(&hostile);

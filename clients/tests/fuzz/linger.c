@@ -17,11 +17,11 @@
 #include <unistd.h>
 
 #define LINGER_SECONDS 20
-#define MOST_MS 1000
+#define MOST_MS 5000
 #define LINGERING 40
 #define LOCAL 200
-#define LOCAL_MS 1000
-#define ALL_MS 3000
+#define LOCAL_MS 5000
+#define ALL_MS 12000
 
 #define DEVICE "/dev/binder"
 

@@ -39,7 +39,7 @@ static struct binder_transaction_data_sg put_parcel(struct page *page)
 static void writes(struct hostile *hostile, const void *stream, size_t size, uint32_t room)
 {
     bool is_answered = hostile_write(hostile, stream, size, room, 0);
-    for (int i = 0; i < 5000 && !is_answered; i++, usleep(1000))
+    for (int i = 0; i < RAW_PATIENCE && !is_answered; i++, usleep(1000))
         is_answered = atomic_load(&hostile->page->state) == PAGE_ANSWERED;
     CHECK(is_answered && !hostile->page->answer.error, "a write of %zu bytes: %d", size, hostile->page->answer.error);
 }

@@ -17,7 +17,6 @@
 #include <sys/ioctl.h>
 #include <unistd.h>
 
-#define MILLISECONDS 10000
 
 enum { GIVE = 1, PASS };
 
@@ -117,7 +116,7 @@ static struct three pass(struct client *client, uint32_t handle, int reading[3],
 static bool is_over(int reading)
 {
     struct pollfd file = {.fd = reading, .events = POLLIN};
-    return poll(&file, 1, MILLISECONDS) == 1 && file.revents == POLLHUP;
+    return poll(&file, 1, RAW_PATIENCE) == 1 && file.revents == POLLHUP;
 }
 
 static void pass_and_free(struct client *client, uint32_t handle)

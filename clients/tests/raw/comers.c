@@ -1,8 +1,8 @@
 /* SPDX-License-Identifier: Apache-2.0 OR MIT */
 /*
- * comers COUNT: what it takes to open the device, map a window and close it beside so many processes that connect to the daemon and hang
- * up, over and over. Prints the median alone and beside them in microseconds, and how much of the daemon's processor time an open takes
- * alone, and who hangs up while nobody opens.
+ * comers COUNT [OPENS]: what it takes to open the device, map a window and close it beside so many processes that connect to the daemon and
+ * hang up, over and over. Prints the median alone and, of so many (300), beside them in microseconds, and how much of the daemon's processor
+ * time an open takes alone, and who hangs up while nobody opens.
  */
 #include "raw.h"
 
@@ -14,12 +14,11 @@
 #include <sys/mman.h>
 #include <sys/socket.h>
 #include <sys/un.h>
-#include <time.h>
 #include <unistd.h>
 
 #define OPENS 300
 #define MOST 64
-#define WHILE_MICROSECONDS 500000
+#define HANGING_UP 4000 /* so many are counted, however long that takes */
 
 static _Atomic uint64_t *hung_up;
 
@@ -37,54 +36,44 @@ static void hang_up(void *with)
     }
 }
 
-/* Microseconds of processor time that the daemon has used. */
-static double daemon_time(void)
-{
-    clockid_t clock;
-    struct timespec time;
-    CHECK(!clock_getcpuclockid(raw_daemon(), &clock) && !clock_gettime(clock, &time), "no daemon");
-    return (double)time.tv_sec * 1e6 + (double)time.tv_nsec / 1e3;
-}
-
-static double median_open(double *of_daemon)
+static double median_open(size_t opens)
 {
     static double times[OPENS];
-    double used = daemon_time();
-    for (size_t i = 0; i < OPENS; i++) {
+    for (size_t i = 0; i < opens; i++) {
         struct binder binder;
         double start = raw_now();
         CHECK(binder_open(&binder, raw_device(), 4096), "open %zu", i);
         times[i] = raw_now() - start;
         binder_close(&binder);
     }
-    *of_daemon = (daemon_time() - used) / OPENS;
-    return raw_spread(times, OPENS).median;
+    return raw_spread(times, opens).median;
 }
 
 static double cost_of_hanging_up(void)
 {
-    double used = daemon_time();
+    double used = raw_daemon_time();
     uint64_t before = atomic_load(hung_up);
-    usleep(WHILE_MICROSECONDS);
-    uint64_t count = atomic_load(hung_up) - before;
-    CHECK(count, "nobody connects");
-    return (daemon_time() - used) / (double)count;
+    while (atomic_load(hung_up) - before < HANGING_UP)
+        usleep(1000);
+    return (raw_daemon_time() - used) / (double)(atomic_load(hung_up) - before);
 }
 
 int main(int argc, char **argv)
 {
     pid_t pids[MOST];
     struct binder binder;
-    double open_cost, other;
     size_t count = argc > 1 ? strtoul(argv[1], NULL, 10) : 8;
-    CHECK(count && count <= MOST, "%zu processes", count);
+    size_t opens = argc > 2 ? strtoul(argv[2], NULL, 10) : OPENS;
+    CHECK(count && count <= MOST && opens && opens <= OPENS, "%zu processes, %zu opens", count, opens);
     raw_begin(60);
     hung_up = mmap(NULL, sizeof *hung_up, PROT_READ | PROT_WRITE, MAP_SHARED | MAP_ANONYMOUS, -1, 0);
     CHECK(hung_up != MAP_FAILED && binder_open(&binder, raw_device(), 4096), "nothing can be opened");
-    double alone = median_open(&open_cost);
+    double used = raw_daemon_time(), alone = median_open(OPENS);
+    raw_daemon_rests();
+    double open_cost = (raw_daemon_time() - used) / OPENS;
     for (size_t i = 0; i < count; i++)
         pids[i] = raw_start(hang_up, NULL);
-    double cost = cost_of_hanging_up(), beside = median_open(&other);
+    double cost = cost_of_hanging_up(), beside = median_open(opens);
     for (size_t i = 0; i < count; i++)
         raw_kill(pids[i]);
     printf("alone %.1f beside %.1f open %.1f hangup %.1f times %llu\n", alone, beside, open_cost, cost,

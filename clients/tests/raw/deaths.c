@@ -85,7 +85,7 @@ static void clients_die(struct client *client)
         pid_t pid = raw_start(give_and_end, &waits);
         raw_kill(pid);
         uint32_t heard = 0;
-        for (int turn = 0; turn < 2000 && heard <= i; turn++, usleep(1000))
+        for (int turn = 0; turn < RAW_PATIENCE && heard <= i; turn++, usleep(1000))
             heard = raw_ask(&client->looper, (struct call){.code = TELL});
         CHECK(heard == i + 1, "the server heard of %u deaths in place of %u", heard, i + 1);
     }

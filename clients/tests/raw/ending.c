@@ -1,8 +1,9 @@
 /* SPDX-License-Identifier: Apache-2.0 OR MIT */
 /*
  * ending handles|deaths|calls COUNT: the longest call while a process ends that holds so many of another's objects, and has asked with
- * `deaths` to be told of their owner's death too, or that has so many one-way calls which it hasn't read. Prints `ended` and the longest in
- * microseconds once nothing is held any more, or after two seconds, and waits to be ended: the owner's end would take its time too.
+ * `deaths` to be told of their owner's death too, or that has so many one-way calls which it hasn't read. Prints how much of the daemon's
+ * time one of them took until it was held, and `ended` with the longest call, in microseconds, once nothing is held any more, or after two
+ * seconds. It waits to be ended then: the owner's end would take its time too.
  * `ending owner COUNT` is the end of the owner, of whose objects another has asked to hear.
  */
 #include "raw.h"
@@ -201,7 +202,9 @@ int main(int argc, char **argv)
     raw_begin(120);
     raw_start_keeper();
     raw_open(&client, WINDOW, NULL);
+    double used = raw_daemon() ? raw_daemon_time() : 0;
     pid_t holder = raw_start(hold_all, NULL), owner = raw_start(own_all, NULL);
+    printf("each %.3f\n", raw_daemon() ? (raw_daemon_time() - used) / (double)count : 0);
     printf("ended %.1f\n", longest_until_gone(&client, is_owners ? owner : holder));
     pause();
     return 0;

@@ -117,7 +117,7 @@ int main(int argc, char **argv)
     pid_t signals = raw_start(signal_often, NULL);
     read_until(count);
     handled = 0;
-    for (int i = 0; i < 3; i++) {
+    for (int i = 0; i < 3 || (handled < 3 && i < 30); i++) { /* as many more as a busy machine needs */
         CHECK(raw_call(&client.looper, (struct call){.code = SLOW}, &reply) == BR_REPLY, "a slow call has no reply");
         looper_free(&client.looper, &reply);
     }

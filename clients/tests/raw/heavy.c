@@ -2,8 +2,9 @@
 /*
  * heavy COUNT [PROCESSES [UID]]: what a call takes beside processes that send one-way parcels of so many objects to themselves, each object
  * one that nobody has seen. One (1) sends as fast as it can, of several each sends a parcel and sleeps; with a user they are that one's.
- * Who calls sleeps between two calls too. Prints the median alone and beside them in microseconds, the 99th of 100 and the longest, how
- * many parcels were taken, and in how many seconds.
+ * Who calls sleeps between two calls too. Prints how much of the daemon's time an object takes, one of a small parcel and until it is gone
+ * again, in microseconds; the median alone and beside them, the 99th of 100 and the longest, how many parcels were taken, and in
+ * how many seconds.
  */
 #include "raw.h"
 
@@ -30,6 +31,10 @@
 #define REST_MICROSECONDS 60000
 /* Not measured: the first calls find nothing mapped yet. */
 #define WARM 20
+
+/* Objects of a small parcel, and of how many such what they take is told. */
+#define FEW_OBJECTS 64u
+#define SMALL_PARCELS 200u
 
 /* So many parcels of who sends are under way at most: what the daemon has of them isn't what is measured. */
 #define UNDER_WAY 2
@@ -177,6 +182,23 @@ static struct found measure(struct client *client)
     return (struct found){spread.median, spread.last, times[CALLS - 1]};
 }
 
+static double cost_of_object(void)
+{
+    const size_t wanted = count, of_them = processes;
+    count = FEW_OBJECTS, processes = 1;
+    pid_t sender = raw_start(send_objects, NULL);
+    double used = raw_daemon_time();
+    uint64_t before = atomic_load(parcels), sent_since;
+    while ((sent_since = atomic_load(parcels) - before) < SMALL_PARCELS)
+        usleep(1000);
+    double cost = (raw_daemon_time() - used) / (double)(sent_since * FEW_OBJECTS);
+    raw_kill(sender);
+    raw_daemon_rests();
+    count = wanted, processes = of_them;
+    atomic_store(parcels, 0);
+    return cost;
+}
+
 int main(int argc, char **argv)
 {
     static struct client client;
@@ -191,6 +213,7 @@ int main(int argc, char **argv)
     raw_begin(60);
     pid_t manager = raw_start_keeper();
     raw_open(&client, WINDOW, NULL);
+    double object = raw_daemon() ? cost_of_object() : 0;
     struct found alone = measure(&client);
     double begin = raw_now();
     for (size_t i = 0; i < processes; i++)
@@ -198,8 +221,8 @@ int main(int argc, char **argv)
     struct found beside = measure(&client);
     for (size_t i = 0; i < processes; i++)
         raw_kill(senders[i]);
-    printf("alone %.1f beside %.1f last %.1f longest %.1f parcels %llu seconds %.3f\n", alone.median, beside.median, beside.last, beside.longest,
-           (unsigned long long)atomic_load(parcels), (raw_now() - begin) / 1e6);
+    printf("object %.3f alone %.1f beside %.1f last %.1f longest %.1f parcels %llu seconds %.3f\n", object, alone.median, beside.median,
+           beside.last, beside.longest, (unsigned long long)atomic_load(parcels), (raw_now() - begin) / 1e6);
     raw_kill(manager);
     return 0;
 }

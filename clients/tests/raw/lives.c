@@ -55,7 +55,7 @@ static ssize_t read_into(int fd, uint32_t *returns, size_t room)
 static uint32_t deaths_after(struct client *observer, uint32_t wanted)
 {
     uint32_t told = 0;
-    for (int i = 0; i < 100; i++, usleep(5000)) {
+    for (int i = 0; i < RAW_PATIENCE; i++, usleep(1000)) {
         told = raw_ask(&observer->looper, (struct call){.code = DEATHS});
         if (told == wanted)
             break;

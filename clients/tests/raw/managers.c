@@ -24,7 +24,7 @@ static void try(void *with)
     CHECK(!seteuid(attempt->user), "can't be user %u", attempt->user);
     double begin = raw_now();
     bool is_it;
-    while (!(is_it = binder_become_manager(&client.binder)) && errno == EBUSY && raw_now() - begin < 5e6)
+    while (!(is_it = binder_become_manager(&client.binder)) && errno == EBUSY && raw_now() - begin < RAW_PATIENCE * 1e3)
         usleep(1000);
     CHECK(is_it || errno == EPERM, "user %u isn't let", attempt->user);
     CHECK(is_it == attempt->may, "user %u %s the context manager", attempt->user, is_it ? "is" : "can't be");

@@ -18,7 +18,6 @@ enum { GIVE = 1, HANG };
 #define STACK ((size_t)128 << 10)
 /* The least that a return is handed over in. */
 #define ROOM 80
-#define SECONDS 5
 
 static struct client mourner, callers;
 static sem_t called, heard;
@@ -109,7 +108,7 @@ int main(int argc, char **argv)
     usleep(500000); /* all wait by now */
     raw_kill(server);
     clock_gettime(CLOCK_REALTIME, &end);
-    end.tv_sec += SECONDS;
+    end.tv_sec += RAW_PATIENCE / 1000;
     for (int i = 0; i < mourners; i++)
         CHECK(!sem_timedwait(&heard, &end), "%d of %d threads have heard of the end beside %d callers", i, mourners, count);
     printf("%d threads hear of an end beside %d callers\n", mourners, count);

@@ -9,11 +9,12 @@
 #include <stdlib.h>
 #include <unistd.h>
 
-enum { COUNT = 1, TELL, PAUSE };
+enum { COUNT = 1, TELL, HOLD };
 
 #define CALLS 2000 /* where not another number is asked for */
 
 static uint32_t expected;
+static struct gate *gate;
 
 static void serve(struct looper *looper, const struct binder_transaction_data *call)
 {
@@ -23,8 +24,8 @@ static void serve(struct looper *looper, const struct binder_transaction_data *c
         CHECK(call->sender_pid == 0, "a one-way call tells the pid %d", call->sender_pid);
         expected++;
         break;
-    case PAUSE:
-        usleep(300000);
+    case HOLD:
+        CHECK(raw_pass(gate), "who made a one-way call waits for the server");
         break;
     default:
         raw_answer(looper, &expected, sizeof expected);
@@ -43,9 +44,11 @@ static void overfill(struct client *client)
     size_t large = WINDOW / 5;
     uint8_t *bytes = calloc(large, 1);
     CHECK(bytes, "no memory");
+    atomic_store(&gate->is_open, false);
     for (int i = 0; i < 2; i++)
-        CHECK(send_oneway(client, PAUSE, bytes, large) == BR_TRANSACTION_COMPLETE, "call %d of a fifth of the window", i);
-    CHECK(send_oneway(client, PAUSE, bytes, large) == BR_FAILED_REPLY, "more than half of the window was taken");
+        CHECK(send_oneway(client, HOLD, bytes, large) == BR_TRANSACTION_COMPLETE, "call %d of a fifth of the window", i);
+    CHECK(send_oneway(client, HOLD, bytes, large) == BR_FAILED_REPLY, "more than half of the window was taken");
+    atomic_store(&gate->is_open, true);
     free(bytes);
 }
 
@@ -54,16 +57,16 @@ int main(int argc, char **argv)
     struct client client;
     uint32_t calls = argc > 1 ? (uint32_t)strtoul(argv[1], NULL, 10) : CALLS;
     raw_begin(30);
+    gate = raw_new_gate();
     pid_t manager = raw_start_manager(serve);
     raw_open(&client, WINDOW, NULL);
     for (uint32_t i = 0; i < calls; i++)
         CHECK(send_oneway(&client, COUNT, &i, sizeof i) == BR_TRANSACTION_COMPLETE, "call %u wasn't taken", i);
-    double start = raw_now();
-    CHECK(send_oneway(&client, PAUSE, NULL, 0) == BR_TRANSACTION_COMPLETE, "a call wasn't taken");
-    CHECK(raw_now() - start < 250000, "a one-way call waited for the server");
+    CHECK(send_oneway(&client, HOLD, NULL, 0) == BR_TRANSACTION_COMPLETE, "a call wasn't taken");
+    atomic_store(&gate->is_open, true);
     /* a two-way call may overtake one-way ones: it is asked until all have come */
     uint32_t come = 0;
-    for (int turn = 0; turn < 5000 && come < calls; turn++, usleep(1000))
+    for (int turn = 0; turn < RAW_PATIENCE && come < calls; turn++, usleep(1000))
         come = raw_ask(&client.looper, (struct call){.code = TELL});
     CHECK(come == calls, "%u of %u calls came", come, calls);
     if (calls >= CALLS)

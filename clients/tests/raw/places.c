@@ -145,7 +145,7 @@ static uint32_t send_many(void)
 static void has_let_go(size_t before)
 {
     size_t now = before;
-    for (int i = 0; i < 2000 && (!i || now > before); i++, usleep(1000))
+    for (int i = 0; i < RAW_PATIENCE && (!i || now > before); i++, usleep(1000))
         now = raw_daemon() ? raw_descriptors(raw_daemon()) : before;
     CHECK(now <= before, "the daemon has %zu descriptors after %zu", now, before);
 }

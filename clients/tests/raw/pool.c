@@ -52,7 +52,7 @@ static void spawn(struct looper *looper)
 static uint32_t meet(void)
 {
     atomic_fetch_add(&met, 1);
-    for (int turn = 0; turn < 2000; turn++, usleep(1000))
+    for (int turn = 0; turn < RAW_PATIENCE; turn++, usleep(1000))
         if (atomic_load(&met) >= 3)
             return 1;
     return 0;

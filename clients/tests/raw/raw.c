@@ -9,6 +9,7 @@
 #include <stdlib.h>
 #include <string.h>
 #include <sys/ioctl.h>
+#include <sys/mman.h>
 #include <sys/prctl.h>
 #include <sys/wait.h>
 #include <time.h>
@@ -38,7 +39,7 @@ const char *raw_device(void)
 void raw_begin(unsigned seconds)
 {
     setvbuf(stdout, NULL, _IOLBF, 0);
-    alarm(seconds);
+    alarm(RAW_BUSY * seconds);
 }
 
 static void serve_nothing(struct looper *looper, const struct binder_transaction_data *call)
@@ -205,6 +206,20 @@ uint32_t raw_fetch(struct client *client)
     return handle;
 }
 
+struct gate *raw_new_gate(void)
+{
+    struct gate *gate = mmap(NULL, sizeof *gate, PROT_READ | PROT_WRITE, MAP_SHARED | MAP_ANONYMOUS, -1, 0);
+    CHECK(gate != MAP_FAILED, "no memory");
+    return gate;
+}
+
+bool raw_pass(const struct gate *gate)
+{
+    for (int turn = 0; turn < RAW_PATIENCE && !atomic_load(&gate->is_open); turn++)
+        usleep(1000);
+    return atomic_load(&gate->is_open);
+}
+
 void raw_kill(pid_t pid)
 {
     kill(pid, SIGKILL);
@@ -245,6 +260,20 @@ pid_t raw_daemon(void)
 {
     const char *named = getenv("RAW_DAEMON");
     return named ? atoi(named) : 0;
+}
+
+double raw_daemon_time(void)
+{
+    clockid_t clock;
+    struct timespec time;
+    CHECK(!clock_getcpuclockid(raw_daemon(), &clock) && !clock_gettime(clock, &time), "no daemon");
+    return (double)time.tv_sec * 1e6 + (double)time.tv_nsec / 1e3;
+}
+
+void raw_daemon_rests(void)
+{
+    for (double used = 0, now; (now = raw_daemon_time()) - used > 100; used = now)
+        usleep(50000);
 }
 
 /* As the kernel tells of it behind its name, which stands in brackets. One that has ended is stopped too. */

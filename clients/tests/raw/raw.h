@@ -10,6 +10,7 @@
 #include "../../managers/looper.h"
 #include "../../managers/parcel.h"
 
+#include <stdatomic.h>
 #include <stdnoreturn.h>
 #include <sys/types.h>
 
@@ -22,7 +23,12 @@ noreturn void raw_fail(const char *file, int line, const char *format, ...) __at
 /* The device that is tested: /dev/binder, or what the environment says in RAW_DEVICE. */
 const char *raw_device(void);
 
-/* Called first: the program ends after so many seconds, whatever happens. */
+/* What has to come is waited for so long, in milliseconds, and a program for so many times as long as it should take: a machine that
+   does much else takes its time. */
+#define RAW_PATIENCE 20000
+#define RAW_BUSY 4u
+
+/* Called first: the program ends, whatever happens, after that many times so many seconds. */
 void raw_begin(unsigned seconds);
 
 /* An open device with one looper. What it doesn't serve it answers with an empty reply. */
@@ -69,6 +75,13 @@ enum { RAW_KEEP = 1, RAW_HAND, RAW_QUIT };
 pid_t raw_start_keeper(void);
 /* The handle of the object that it keeps. */
 uint32_t raw_fetch(struct client *client);
+/* A gate that this process shares with those that are started later. Who comes to it waits while it is shut, as it is at first: not for
+   ever, which it tells by false. So a server takes as long as its client needs, whatever the machine does. */
+struct gate {
+    atomic_bool is_open;
+};
+struct gate *raw_new_gate(void);
+bool raw_pass(const struct gate *gate);
 /* Ends a process that raw_start started, by SIGKILL, and waits until it is gone. */
 void raw_kill(pid_t pid);
 /* Waits for one that ends by itself, which has to be with 0. */
@@ -81,6 +94,10 @@ uint32_t raw_keep(struct looper *looper, const struct binder_transaction_data *r
 size_t raw_descriptors(pid_t pid);
 /* The daemon, where the environment names it in RAW_DAEMON; else 0. */
 pid_t raw_daemon(void);
+/* Microseconds of the processor's time that it has used. */
+double raw_daemon_time(void);
+/* Waits until it has used hardly any for a while. */
+void raw_daemon_rests(void);
 
 /* Stops all of the daemon's threads, so that it finds at once what comes until it goes on; there has to be one. */
 void raw_stop_daemon(void);

@@ -17,13 +17,16 @@
 static struct client client;
 static atomic_uint answered, refused;
 
-/* The first call keeps all others waiting, for longer than the daemon lets one wait for a seat. */
+/* Open once as many have been refused as are to be, which the daemon does after a second. */
+static struct gate *gate;
+
+/* The first call keeps all others waiting. */
 static void serve(struct looper *looper, const struct binder_transaction_data *call)
 {
     static bool is_later;
     (void)call;
     if (!is_later)
-        usleep(2500000);
+        CHECK(raw_pass(gate), "nobody is refused");
     is_later = true;
     raw_answer(looper, NULL, 0);
 }
@@ -43,11 +46,15 @@ static void *call(void *with)
     return NULL;
 }
 
-static void call_by(size_t count)
+static void call_by(size_t count, size_t too_many)
 {
     static pthread_t threads[MOST_CALLERS];
     for (size_t i = 0; i < count; i++)
         CHECK(!pthread_create(&threads[i], NULL, call, NULL), "no thread");
+    usleep(2500000); /* where none is to be refused, all have called by then */
+    while (atomic_load(&refused) < too_many)
+        usleep(1000);
+    atomic_store(&gate->is_open, true);
     for (size_t i = 0; i < count; i++)
         pthread_join(threads[i], NULL);
 }
@@ -57,11 +64,12 @@ int main(int argc, char **argv)
     size_t callers = argc == 3 ? strtoul(argv[1], NULL, 10) : 30, served = argc == 3 ? strtoul(argv[2], NULL, 10) : 29;
     CHECK(callers <= MOST_CALLERS && served <= callers, "usage: seats [CALLERS ANSWERED]");
     raw_begin(30);
+    gate = raw_new_gate();
     pid_t manager = raw_start_manager(serve);
     raw_open(&client, WINDOW, NULL);
-    call_by(callers);
+    call_by(callers, callers - served);
     CHECK(answered == served && answered + refused == callers, "%u calls were answered, %u refused", answered, refused);
-    call_by(1);
+    call_by(1, 0);
     CHECK(answered == served + 1, "the last call was refused again");
     printf("%zu calls at once\n", served);
     raw_kill(manager);

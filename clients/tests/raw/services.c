@@ -153,7 +153,7 @@ static void all_go(struct client *client, uint32_t many, uint32_t left)
     uint32_t there = left + 1;
     for (uint32_t i = left; i < many; i++)
         raw_kill(owners[i]);
-    for (int turn = 0; turn < 1000 && there != left; turn++, usleep(1000))
+    for (int turn = 0; turn < RAW_PATIENCE && there != left; turn++, usleep(1000))
         there = count(client);
     CHECK(there == left, "%u services are left after a death, in place of %u", there, left);
 }

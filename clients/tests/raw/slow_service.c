@@ -21,7 +21,7 @@ enum { GET = 1, ADD = 2 };
 #define THREADS 4
 #define PROCESSES 2
 
-#define MOST_MS 1000
+#define MOST_MS 10000
 
 /* As hidl_string and hidl_vec lie in memory. */
 struct vector {
@@ -64,11 +64,14 @@ static void tell_chain(struct looper *looper, const struct binder_transaction_da
     writer_free(&writer);
 }
 
+static atomic_uint hanging;
+
 /* Serves the question for interfaces by not answering it. */
 static void hang(struct looper *looper, const struct binder_transaction_data *call)
 {
     (void)looper;
     CHECK(call->code == CHAIN, "call %x in place of the question for interfaces", call->code);
+    atomic_fetch_add(&hanging, 1);
     pause();
 }
 
@@ -121,7 +124,8 @@ static void be_slow(void *with)
     raw_open(&client, WINDOW, NULL);
     for (int i = 0; i < THREADS; i++)
         CHECK(!pthread_create(&thread, NULL, add_slow, &client), "no thread");
-    usleep(300000);
+    while (atomic_load(&hanging) < THREADS)
+        usleep(1000);
     raw_looper(&looper, &client, hang);
     CHECK(!adds(&looper, "one more"), "one service more was added");
     raw_ready();

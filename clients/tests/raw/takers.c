@@ -14,7 +14,6 @@
 #include <string.h>
 #include <unistd.h>
 
-#define MILLISECONDS 10000
 
 /* What a call wants of its server: to say how many descriptors it has, to be answered with one or an array of one, or to be called back
    before that. */
@@ -74,7 +73,7 @@ static void serve(struct looper *looper, const struct binder_transaction_data *c
 static bool is_over(int reading)
 {
     struct pollfd file = {.fd = reading, .events = POLLIN};
-    bool is_so = poll(&file, 1, MILLISECONDS) == 1 && file.revents == POLLHUP;
+    bool is_so = poll(&file, 1, RAW_PATIENCE) == 1 && file.revents == POLLHUP;
     close(reading);
     return is_so;
 }

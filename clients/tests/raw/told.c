@@ -23,11 +23,13 @@ struct told {
     binder_uintptr_t ptr;
 };
 
+static struct gate *gate;
+
 static void serve(struct looper *looper, const struct binder_transaction_data *call)
 {
     if (call->code == WAIT) {
         raw_keep(looper, call);
-        usleep(800000);
+        CHECK(raw_pass(gate), "nobody lets go of it");
     }
     if (!(call->flags & TF_ONE_WAY))
         raw_answer(looper, NULL, 0);
@@ -80,7 +82,7 @@ static const struct flat_binder_object weak = {.hdr.type = BINDER_TYPE_WEAK_BIND
 static const struct flat_binder_object strong = {.hdr.type = BINDER_TYPE_BINDER, .binder = 0x2000, .cookie = 0x2001};
 static const struct flat_binder_object between = {.hdr.type = BINDER_TYPE_BINDER, .binder = 0x3000, .cookie = 0x3001};
 
-/* Its call waits for a while, and what it leaves is read with the reply. */
+/* Its call waits until the others are done, and what it leaves is read with the reply. */
 static void *send_first(void *with)
 {
     static const struct told wanted[] = {{BR_INCREFS, 0x1000}, {BR_ACQUIRE, 0x1000}, {BR_TRANSACTION_COMPLETE, 0}, {BR_REPLY, 0}};
@@ -136,12 +138,14 @@ static void strong_is_behind(void)
 int main(void)
 {
     raw_begin(30);
+    gate = raw_new_gate();
     pid_t manager = raw_start_manager(serve);
     raw_open(&client, WINDOW, NULL);
     CHECK(!sem_init(&has_sent, 0, 0) && !sem_init(&has_read, 0, 0), "no semaphore");
     pthread_t waiter = start(send_first); /* which the receiver is busy with meanwhile, so that it lets go of nothing */
     first_is_told();
     strong_is_behind();
+    atomic_store(&gate->is_open, true);
     pthread_join(waiter, NULL);
     printf("the first to send is told, what is strong behind what was\n");
     raw_kill(manager);

@@ -82,7 +82,12 @@ static void refuse(struct looper *looper)
     is_refused(looper->binder->fd, BC_REPLY, &reply, BR_FAILED_REPLY); /* there is no call any more */
 }
 
+/* In microseconds: so long is waited until a thread surely waits, and longer where that wasn't enough. */
+#define FIRST_PAUSE 100000u
+#define LAST_PAUSE 3200000u
+
 static struct client server;
+static unsigned pause_us;
 
 static void serve(struct looper *looper, const struct binder_transaction_data *call)
 {
@@ -97,7 +102,7 @@ static void *wait_later(void *with)
 {
     struct looper looper;
     raw_looper(&looper, &server, serve);
-    usleep(200000); /* the first waits by then */
+    usleep(2 * pause_us); /* the first waits by then */
     looper_run(&looper);
     return with;
 }
@@ -105,29 +110,44 @@ static void *wait_later(void *with)
 static void run_server(void *with)
 {
     pthread_t thread;
+    bool is_manager = false;
     (void)with;
     raw_open(&server, WINDOW, serve);
-    CHECK(binder_become_manager(&server.binder), "can't be the context manager");
+    for (int turn = 0; turn < RAW_PATIENCE && !(is_manager = binder_become_manager(&server.binder)); turn++)
+        usleep(1000); /* the one before is it for a moment */
+    CHECK(is_manager, "can't be the context manager");
     CHECK(!pthread_create(&thread, NULL, wait_later, NULL), "no thread");
     raw_ready();
     looper_run(&server.looper);
 }
 
+/* Whether the second of two threads, which has begun to wait last, gets all calls, as it waits again before each; also behind one
+   whose reply it is refused. */
+static bool is_last_called(struct client *client)
+{
+    struct binder_transaction_data reply;
+    bool is_last = true;
+    pid_t manager = raw_start(run_server, NULL);
+    usleep(6 * pause_us); /* both wait by now */
+    for (int i = 0; i < 3; i++, usleep(pause_us))
+        is_last = raw_ask(&client->looper, (struct call){.code = WHO}) == 2 && is_last;
+    call_nobody(client->binder.fd);
+    CHECK(raw_call(&client->looper, (struct call){.code = REFUSE}, &reply) == BR_FAILED_REPLY, "a refused reply came");
+    usleep(pause_us); /* else who served that call may find fault with it after this */
+    is_last = raw_ask(&client->looper, (struct call){.code = WHO}) == 2 && is_last;
+    raw_kill(manager);
+    return is_last;
+}
+
 int main(void)
 {
     struct client client;
-    struct binder_transaction_data reply;
-    raw_begin(30);
-    pid_t manager = raw_start(run_server, NULL);
-    usleep(600000); /* both wait by now */
+    bool is_last = false;
+    raw_begin(60);
     raw_open(&client, WINDOW, NULL);
-    for (int i = 0; i < 3; i++, usleep(100000))
-        CHECK(raw_ask(&client.looper, (struct call){.code = WHO}) == 2, "who waited longer got the call");
-    call_nobody(client.binder.fd);
-    CHECK(raw_call(&client.looper, (struct call){.code = REFUSE}, &reply) == BR_FAILED_REPLY, "a refused reply came");
-    usleep(100000); /* else who served that call may find fault with it after this */
-    CHECK(raw_ask(&client.looper, (struct call){.code = WHO}) == 2, "who refused its reply no longer serves");
+    for (pause_us = FIRST_PAUSE; !is_last && pause_us <= LAST_PAUSE; pause_us *= 2)
+        is_last = is_last_called(&client);
+    CHECK(is_last, "who waited longer got the call, or who refused its reply no longer serves");
     printf("nothing runs before a refusal is read, who waits last is called first\n");
-    raw_kill(manager);
     return 0;
 }

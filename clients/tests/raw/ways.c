@@ -37,8 +37,6 @@ enum { GIVE = 1, TAKE, TAKE_TIME, ASK_ITSELF, ANSWER };
 #define TIGHT 72
 #define ROOMY 256
 
-#define SECONDS 5
-
 /* A bare write of some bytes: the ioctl's errno, or 0. */
 static int written(int fd, const struct commands *commands)
 {
@@ -112,7 +110,7 @@ static void poll_for_reply(int fd)
 {
     struct pollfd file = {.fd = fd, .events = POLLIN};
     CHECK(poll(&file, 1, 50) == 0, "poll tells of something before the reply");
-    CHECK(poll(&file, 1, 5000) == 1, "poll doesn't tell of the reply");
+    CHECK(poll(&file, 1, RAW_PATIENCE) == 1, "poll doesn't tell of the reply");
 }
 
 static void defers(void (*before)(int fd))
@@ -275,7 +273,7 @@ static void is_told_behind_call(void)
     pthread_join(thread, NULL);
     while (!is_done || !is_complete) {
         uint32_t codes[8];
-        CHECK(poll(&file, 1, 5000) == 1, "poll doesn't tell of all");
+        CHECK(poll(&file, 1, RAW_PATIENCE) == 1, "poll doesn't tell of all");
         ssize_t count = read_codes(both.binder.fd, codes);
         CHECK(count > 0, "poll tells of what can't be read");
         for (ssize_t i = 0; i < count; i++) {
@@ -339,7 +337,7 @@ static void tells_who_has_room(void)
     usleep(100000);
     take_back(NULL);
     clock_gettime(CLOCK_REALTIME, &end);
-    end.tv_sec += SECONDS;
+    end.tv_sec += RAW_PATIENCE / 1000;
     CHECK(!sem_timedwait(&is_heard, &end), "who has room isn't told");
     pthread_join(tight, NULL);
     pthread_join(roomy, NULL);
@@ -360,7 +358,7 @@ static void tells_another(void)
     pthread_join(thread, NULL);
     CHECK(!pthread_create(&thread, NULL, take_back_later, NULL), "no thread");
     struct pollfd file = {.fd = both.binder.fd, .events = POLLIN};
-    CHECK(poll(&file, 1, 5000) == 1, "nobody who polls is told");
+    CHECK(poll(&file, 1, RAW_PATIENCE) == 1, "nobody who polls is told");
     is_told("polls");
     pthread_join(thread, NULL);
     read_nothing(both.binder.fd);
