@@ -47,6 +47,11 @@ impl Steps {
         assert_eq!(told, Told::Accepted);
     }
 
+    fn finish(&mut self, seat: Seat) {
+        self.begin(seat);
+        self.space.finish_release(seat, self.process_of(seat));
+    }
+
     /// A call to the manager, or the reply to what was called, with one object.
     fn send(&mut self, seat: Seat, code: u32, kind: Kind, value: u64) {
         let mut bytes = code.to_le_bytes().to_vec();
@@ -81,6 +86,7 @@ fn read_amid_free(ways: &[Way]) -> (Steps, Vec<u32>) {
     let called = steps.read(MANAGER).1;
     steps.send(MANAGER, BC_REPLY, Kind::Handle, 1);
     steps.command(MANAGER, BC_FREE_BUFFER, &called.to_le_bytes());
+    steps.finish(MANAGER);
     let (codes, replied) = steps.read(CLIENT);
     assert_eq!(codes, [BR_INCREFS, BR_ACQUIRE, BR_TRANSACTION_COMPLETE, BR_REPLY]);
     let its = [PTR.to_le_bytes(), [0; 8]].concat();
@@ -96,9 +102,7 @@ fn a_buffer_that_is_freed_holds_the_receivers_objects_weakly_until_the_end() {
     assert_eq!(read_amid_free(&[]).1, [BR_RELEASE, BR_DECREFS]);
     let (mut steps, read) = read_amid_free(&[Way::Released]);
     assert_eq!(read, [BR_RELEASE]);
-    steps.begin(CLIENT);
-    let client = steps.process_of(CLIENT);
-    steps.space.finish_release(CLIENT, client);
+    steps.finish(CLIENT);
     assert_eq!(steps.read(OTHER).0, [BR_DECREFS]);
 }
 
