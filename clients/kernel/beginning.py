@@ -19,6 +19,8 @@ RECORD, WRITE_READ = struct.Struct("<IIQQ"), 4
 RESULT, WRITTEN, READ, SIZES, PARTS = 8, 24, 48, 64, 88
 EVENTS = ("ioctl", "command", "transaction", "transaction_received", "transaction_node_to_ref", "transaction_ref_to_node",
           "transaction_ref_to_ref", "transaction_buffer_release")
+# which words of an event are kept, where it isn't the transaction's number alone
+WORDS = {"ioctl": "cmd=", "transaction": ("transaction=", "dest_thread=", "reply=")}
 EVENT = re.compile(r".*-(\d+)\s+\[\d+\]\s+\S+\s+(\d+)\.(\d+): binder_(\w+): ?(.*)")
 
 
@@ -61,7 +63,7 @@ def of_trace(lines, tids, until):
         if not found or int(found[1]) not in tids or found[4] not in EVENTS:
             continue
         if (int(found[2]) * 1_000_000 + int(found[3])) * 1000 <= until:
-            words = [it for it in found[5].split() if it.startswith("transaction=") or found[4] == "ioctl" and it.startswith("cmd=")]
+            words = [it for it in found[5].split() if it.startswith(WORDS.get(found[4], "transaction="))]
             yield f"-{found[1]}[ {found[2]}.{found[3]}: binder_{found[4]}:{''.join(f' {it}' for it in words)}\n"
 
 

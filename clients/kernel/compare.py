@@ -34,7 +34,7 @@ sys.path.insert(0, HERE)
 import document  # noqa: E402
 import driver  # noqa: E402
 import engine  # noqa: E402
-from differences import DIFFERENCES  # noqa: E402
+from differences import DIFFERENCES, of_version  # noqa: E402
 from fetch import Kernel, Missing, default_folder  # noqa: E402
 from machine import NotRun  # noqa: E402
 from play import Played, with_keys  # noqa: E402
@@ -48,9 +48,9 @@ LINES, LONG = 60, 200
 class Case:
     """A script with what the rules and the driver's model answer, and then what the driver did."""
 
-    def __init__(self, name, text):
-        self.name, self.script = name, with_keys(Script(text))
-        by_rules, drivers = Played(self.script), Played(self.script, DIFFERENCES)
+    def __init__(self, name, text, ways=DIFFERENCES):
+        self.name, self.script, self.ways = name, with_keys(Script(text)), ways
+        by_rules, drivers = Played(self.script), Played(self.script, ways)
         self.rules, self.plain = by_rules.lines, by_rules.plain
         self.expected, self.asked = drivers.lines, drivers.asked
         self.answers = None
@@ -77,7 +77,7 @@ class Case:
         def answers(ways):
             return [it.answers for it in Played(self.script, ways).lines]
         whole = [it.answers for it in self.expected]
-        return [name for name in DIFFERENCES if name in self.asked and answers(DIFFERENCES.keys() - {name}) != whole]
+        return [name for name in self.ways if name in self.asked and answers(self.ways.keys() - {name}) != whole]
 
 
 def texts_of(pattern, kind):
@@ -88,13 +88,13 @@ def texts_of(pattern, kind):
     return found
 
 
-def cases(given):
+def cases(given, ways):
     texts = {f"script {given.seed + it}": made(given.seed + it, LINES) for it in range(given.scripts)}
     texts |= {f"long script {given.seed + it}": made(given.seed + it, LONG) for it in range(given.long)}
     texts |= {f"pool script {given.seed + it}": made(given.seed + it, LINES, PoolMaker) for it in range(given.pool)}
     texts |= texts_of(f"{ROOT}/examples/*.script", "example")
     texts |= texts_of(f"{HERE}/kinds/*.script", "kind")
-    return [Case(name, text) for name, text in texts.items() if given.only in name and Script(text).is_playable()]
+    return [Case(name, text, ways) for name, text in texts.items() if given.only in name and Script(text).is_playable()]
 
 
 def judge_model(all_cases, program):
@@ -115,9 +115,9 @@ def tell_unknown(case, line):
     print(f"FAIL {case.name}, line {line.number}: {line.words[:200]}\n  expected {str(line.answers)[:400]}\n  driver   {str(its)[:400]}")
 
 
-def judge_driver(all_cases):
+def judge_driver(all_cases, ways):
     """How many scripts agree, differ in named ways, are unknown; and how often each difference was met, in which script first."""
-    agree, unknown, met = 0, 0, {name: [] for name in DIFFERENCES}
+    agree, unknown, met = 0, 0, {name: [] for name in ways}
     for case in all_cases:
         line = case.unknown()
         if line:
@@ -170,27 +170,28 @@ def main():
         print(f"kernel: {given.bplay} isn't built: cd crates/bd_play && rt run < stdin", file=sys.stderr)
         return 1
     try:
-        all_cases = cases(given)
-    except NoRules as why:
+        kernel = None if given.model else Kernel(os.path.abspath(given.kernel))
+        ways = of_version(kernel.version if kernel else "")
+        all_cases = cases(given, ways)
+    except (Missing, NoRules, OSError) as why:
         print(f"kernel: {why}", file=sys.stderr)
         return 1
     wrong = judge_model(all_cases, given.bplay)
     if given.model:
         return 1 if wrong else 0
     try:
-        kernel = Kernel(os.path.abspath(given.kernel))
         found = driver_answers(given, kernel, all_cases)
     except (Missing, NotRun, OSError) as why:
         print(f"kernel: the driver can't be played: {why}", file=sys.stderr)
         return 1
     for case in all_cases:
         case.answers = found.get(case.name)
-    agree, differ, unknown, met = judge_driver(all_cases)
+    agree, differ, unknown, met = judge_driver(all_cases, ways)
     for name in unseen(met, all_cases):
         unknown += 1
         print(f"FAIL {name}: kinds/{name}.script doesn't show it")
     for name, those in met.items():
-        print(f"{len(those):5}  {name}: {DIFFERENCES[name].driver}")
+        print(f"{len(those):5}  {name}: {ways[name].driver}")
     if given.document and not wrong and not given.only:
         run = document.Run(kernel.version, given, all_cases, met, agree, differ)
         if os.path.abspath(given.kernel) == default_folder() and not unknown:

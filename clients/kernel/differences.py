@@ -4,6 +4,7 @@
 Lines are those of drivers/android in Linux 6.1, as Debian's linux-source-6.1 6.1.192-2 has it. `kinds/NAME.script` is a short script that
 shows the difference.
 """
+import re
 from collections import namedtuple
 
 Difference = namedtuple("Difference", "driver rules lines purpose noticed")
@@ -101,3 +102,20 @@ DIFFERENCES = {
         "At most 4096 bytes (F15).",
         "binder.c 3812", "on purpose: a bound for a step", "not through the library, which cuts streams"),
 }
+
+# .. what newer drivers alone do
+NEWER = {
+    "uncounted": Difference(
+        "Where flooding is looked for, the call that is being made isn't counted yet as its sender's, but as that of who had sent the buffer in "
+        "whose place it comes.",
+        "It is counted.",
+        "binder_alloc.c, where a buffer is taken", "not on purpose", "a client that floods is told a call later"),
+}
+# the first of Linux's versions on which they were seen; 6.1 doesn't have them
+SEEN_SINCE = 7
+
+
+def of_version(version):
+    """The differences of a driver, by the words that tell which one it is."""
+    number = re.search(r"Linux (\d+)", version)
+    return DIFFERENCES | NEWER if number and int(number[1]) >= SEEN_SINCE else DIFFERENCES

@@ -25,6 +25,7 @@ import struct
 import subprocess
 import sys
 import tempfile
+from concurrent.futures import ThreadPoolExecutor
 
 sys.dont_write_bytecode = True
 HERE = os.path.dirname(os.path.abspath(__file__))
@@ -65,6 +66,8 @@ one() {{
 """
 # so many steps are tried of a spoiled recording, some hundred times what the whole one takes
 SPOILED_TRIES = 300_000
+# so many recordings are judged at once
+AT_ONCE = 2
 USED = struct.Struct("<8sQ")
 HEAD, RECORD = 64, struct.Struct("<IIQQ")
 WRITE_READ = 4
@@ -149,15 +152,23 @@ def keep_unknown(given, name, said):
 
 def judge_all(given, folder, recordings, told):
     """A line for each recording; what was seen of each, and how many aren't as they should be."""
-    seen, wrong = [], 0
-    for name, _, words in runs_of(given):
+    def judge(run):
+        name, journal = run[0], f"{folder}/{run[0]}.journal"
         if told.get(name, "?").split()[0] != "0":
+            return None
+        verdict, ways, *figures = judged(given, f"{recordings}/{name}", journal)
+        player = player_says(given, journal) if verdict == "lawful" and not ways and given.bplay else ""
+        return verdict, ways, *figures, player
+
+    seen, wrong = [], 0
+    with ThreadPoolExecutor(AT_ONCE) as pool:
+        outcomes = list(pool.map(judge, runs_of(given)))
+    for (name, _, words), outcome in zip(runs_of(given), outcomes):
+        if outcome is None:
             print(f"FAIL {name}: it ended with {told.get(name)}")
             wrong += 1
             continue
-        recording, journal = f"{recordings}/{name}", f"{folder}/{name}.journal"
-        verdict, ways, steps, threads, seconds, said = judged(given, recording, journal)
-        player = player_says(given, journal) if verdict == "lawful" and not ways and given.bplay else ""
+        verdict, ways, steps, threads, seconds, said, player = outcome
         is_raw = words[6:] in RAW
         is_good = verdict == "lawful" and (not is_raw or ways == RAW[words[6:]]) and (not player or player.startswith("lawful "))
         wrong += not is_good and is_raw
@@ -220,29 +231,39 @@ def spoil(recording, dice):
     return f"{how} of {os.path.basename(path)} at {at}"
 
 
-def judge_spoiled(given, folder, recordings):
-    """How many there were, which of them are called lawful, with what was spoiled, and how many of those aren't lawful for certain."""
-    dice, lawful, doubtful, count = random.Random(given.seed), [], 0, 0
+def spoiled_ones(given, folder, recordings):
+    """The names of recordings, where a spoiled one is, and what was spoiled."""
+    dice, count = random.Random(given.seed), 0
     names = ["nested", "deaths", "many-4-3-50", "latency-50"]
     while count < given.spoiled:
-        name = names[count % len(names)]
-        spoiled = f"{folder}/spoiled"
+        name, spoiled = names[count % len(names)], f"{folder}/spoiled-{count + 1}"
         shutil.rmtree(spoiled, ignore_errors=True)
         shutil.copytree(f"{recordings}/{name}", spoiled)
         how = spoil(spoiled, dice)
-        if how is None:
-            continue
-        count += 1
-        journal = f"{folder}/spoiled.journal"
-        verdict, ways, *_ = judged(given, spoiled, journal, "--tries", str(SPOILED_TRIES))
+        if how:
+            count += 1
+            yield name, spoiled, how
+
+
+def judge_spoiled(given, folder, recordings):
+    """How many there were, which of them are called lawful, with what was spoiled, and how many of those aren't lawful for certain."""
+    def judge(it):
+        journal = f"{it[1]}.journal"
+        verdict, ways, *_ = judged(given, it[1], journal, "--tries", str(SPOILED_TRIES))
+        return verdict, ways, player_says(given, journal) if verdict == "lawful" and not ways and given.bplay else ""
+
+    all_spoiled, lawful, doubtful = list(spoiled_ones(given, folder, recordings)), [], 0
+    count = len(all_spoiled)
+    with ThreadPoolExecutor(AT_ONCE) as pool:
+        outcomes = list(pool.map(judge, all_spoiled))
+    for (name, spoiled, how), (verdict, ways, player) in zip(all_spoiled, outcomes):
         if verdict == "lawful":
-            player = player_says(given, journal) if not ways and given.bplay else ""
             doubtful += not player.startswith("lawful ")
             lawful.append(f"{name}, {how}")
             print(f"{'ok  ' if player.startswith('lawful ') else 'FAIL'} spoiled {name}, {how}: lawful{', with ' + ways if ways else ''}"
                   f"{', and by the player: ' + player if player else ''}", flush=True)
             if given.keep:
-                shutil.copytree(spoiled, f"{given.keep}/spoiled-{count}", dirs_exist_ok=True)
+                shutil.copytree(spoiled, f"{given.keep}/{os.path.basename(spoiled)}", dirs_exist_ok=True)
     print(f"{count} spoiled recordings, {len(lawful)} of them called lawful, {doubtful} of these not so for certain")
     return count, lawful, doubtful
 

@@ -194,7 +194,7 @@ fn each_switch_changes_what_its_script_prints() {
         assert!(printed(&["rules", path, "--ways", &all]) != printed(&["rules", path, "--ways", &others]), "{name}");
         shown += 1;
     }
-    assert_eq!(shown, 21);
+    assert_eq!(shown, 22);
 }
 
 /// What each line says to a program is what the script prints.

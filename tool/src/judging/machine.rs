@@ -190,7 +190,7 @@ impl<'a> Machine<'a> {
     /// Whether nothing is left that has to be made.
     pub fn is_over(&self, done: &[u32]) -> bool {
         // What comes behind the other half of a release has to be made too.
-        let may_stay = |it: &Step| it.is_maybe || matches!(it.act, Act::End | Act::Finish);
+        let may_stay = |it: &Step| it.is_maybe || matches!(it.act, Act::End | Act::EndPart(_) | Act::Finish);
         self.recording.tracks.iter().zip(done).all(|(track, done)| {
             let rest = track.steps.get(*done as usize..).unwrap_or(&[]);
             rest.first().map_or(true, may_stay) && rest.iter().all(may_stay)
@@ -211,6 +211,7 @@ impl<'a> Machine<'a> {
                 .iter()
                 .filter(|it| **it != track)
                 .all(|it| self.step(*it, done[*it]).map_or(true, |it| it.is_maybe || matches!(it.act, Act::Finish))),
+            Act::EndPart(_) => true,
             _ if !space.threads.has(track as Seat) => false,
             Act::Manager => !matches!(step.wanted, Wanted::Done(is_set) if is_set == space.manager.is_some()),
             Act::Read(_) => self.could_read(space, track as Seat, step),
@@ -276,8 +277,19 @@ impl<'a> Machine<'a> {
             Act::Spam(on) => space.request(seat, Request::SetSpam(*on)).ok().map(|()| Came::Set(true)),
             Act::ExitThread => space.request(seat, Request::ExitThread).ok().map(|()| Came::Exited),
             Act::End => {
-                space.exit_process(process_id(process));
+                match space.does(Way::Ended) {
+                    true => space.exit_threads(process_id(process)),
+                    false => space.exit_process(process_id(process)),
+                }
                 Some(Came::Exited)
+            }
+            Act::EndPart(part) => {
+                match part {
+                    Part::Objects => space.exit_objects(process_id(process)),
+                    Part::Names => space.exit_names(process_id(process)),
+                    Part::Rest => space.exit_rest(process_id(process)),
+                }
+                Some(Came::Half)
             }
             Act::Command(command) => self.command(space, done, seat, step, command),
             Act::Hold(command) => {

@@ -26,12 +26,17 @@ use steps::Recording;
 const SMALL: usize = 1500;
 const EXHAUSTED: u64 = 300_000;
 const AT_ONCE: usize = 6000;
+/// Where the driver makes one step in parts.
+const HALVES: [Way; 5] = [Way::Pieces, Way::Released, Way::Ended, Way::Numbered, Way::Held];
+/// How many sets of switches have more tries than the others.
+const GO_ON: usize = 3;
 /// Seconds of a processor for a recording, ..
 const SECONDS: f64 = 5.0;
 
-/// In which the driver does otherwise also to one thread; the freedom of the order does what the others would.
+/// In which the driver does otherwise also to one thread; the freedom of the order does what the others would. What newer drivers alone do
+/// has to be named.
 fn plain_ways() -> Ways {
-    let free = [Way::Room, Way::Looper, Way::Deferred, Way::Stuck, Way::Long];
+    let free = [Way::Room, Way::Looper, Way::Deferred, Way::Stuck, Way::Long, Way::Uncounted];
     let others = WAYS.iter().filter(|it| it.2 && it.0 != Way::Waiter && !free.contains(&it.0)).map(|it| it.0);
     others.fold(Ways::NONE.with(Way::OwnPid), Ways::with)
 }
@@ -41,11 +46,11 @@ fn sets() -> [Ways; 7] {
     let with = |ways: &[Way]| ways.iter().fold(plain_ways(), |sum, it| sum.with(*it));
     [
         with(&[Way::Waiter, Way::Pieces]),
-        with(&[Way::Waiter, Way::Pieces, Way::Released]),
-        with(&[Way::Pieces, Way::Released]),
-        with(&[Way::Waiter, Way::Pieces, Way::Released, Way::Numbered]),
+        with(&[Way::Waiter, Way::Pieces, Way::Released, Way::Ended]),
+        with(&[Way::Pieces, Way::Released, Way::Ended]),
         with(&[Way::Pieces, Way::Numbered]),
-        with(&[Way::Waiter, Way::Pieces, Way::Released, Way::Numbered, Way::Held]),
+        with(&HALVES),
+        with(&HALVES).with(Way::Waiter),
         with(&[Way::Waiter]),
     ]
 }
@@ -169,18 +174,25 @@ impl Trial<'_> {
         Ok(found)
     }
 
-    /// Seeks an order without a switch, then with one set of them after the other, first with few tries.
+    /// Seeks an order without a switch, then with one set of them after the other, first with few tries. Those that came furthest have
+    /// more of them then.
     fn verdict_of_all(&self) -> Verdict {
         let few = 10_000 + 4 * self.whole.size() as u64;
-        let many = self.given.tries / 6;
-        // What has no order for want of a difference is seldom found by more tries, so the fullest set is the first to have them.
-        let again = sets().into_iter().rev().chain(Some(Ways::NONE)).map(|it| (it, many));
+        let mut sets = sets().to_vec();
         let mut found = self.sought(Ways::NONE, self.bound(few, 1.0));
-        for (ways, limit) in sets().into_iter().map(|it| (it, few)).chain(again) {
-            let bound = self.bound(limit, 1.0 - LEFT_OUT);
-            if found.outcome.order.is_none() && !bound.is_late() {
-                found.or(self.sought(ways, bound));
+        for limit in [few, (5 * few).min(self.given.tries / 6), self.given.tries / 2] {
+            let mut reached = Vec::new();
+            for ways in std::mem::take(&mut sets) {
+                let bound = self.bound(limit, 1.0 - LEFT_OUT);
+                if found.outcome.order.is_some() || bound.is_late() {
+                    return found;
+                }
+                let next = self.sought(ways, bound);
+                reached.push((next.outcome.most * 1000 / next.recording.size().max(1), ways));
+                found.or(next);
             }
+            reached.sort_by_key(|it| std::cmp::Reverse(it.0));
+            sets.extend(reached.into_iter().take(GO_ON).map(|it| it.1));
         }
         found
     }
@@ -191,9 +203,8 @@ impl Trial<'_> {
         if found.outcome.order.is_none() {
             return;
         }
-        let often =
-            [Way::Notices, Way::Cleared, Way::Order, Way::Waiter, Way::Pieces, Way::Released, Way::Numbered, Way::Held];
-        let often = often.iter().fold(Ways::NONE, |ways, it| ways.with(*it));
+        let often = [Way::Notices, Way::Cleared, Way::Order, Way::Waiter];
+        let often = often.iter().chain(&HALVES).fold(Ways::NONE, |ways, it| ways.with(*it));
         let each = WAYS.iter().map(|it| Ways::NONE.with(it.0));
         // An order with fewer switches takes about as many tries, if there is one; but there mostly is none.
         let limit = (5_000 + 2 * self.whole.size() as u64).max(found.outcome.tries.min(60_000));

@@ -149,7 +149,7 @@ impl Written {
                 let message = command.message;
                 command_step(&command, &message)
             }
-            Act::Hold(_) | Act::Finish => return None,
+            Act::Hold(_) | Act::Finish | Act::EndPart(_) => return None,
         })
     }
 

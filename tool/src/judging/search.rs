@@ -109,7 +109,7 @@ impl<'a> Search<'a> {
             |it: &(usize, &Step)| it.1.begin <= bound && self.machine.could_be(&node.space, &node.done, it.0, it.1);
         let at = |step: &Step| match step.act {
             Act::End => NEVER,
-            Act::Finish => 0,
+            Act::Finish | Act::EndPart(_) => 0,
             _ => step.at,
         };
         let mut found: Vec<_> =

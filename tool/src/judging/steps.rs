@@ -51,8 +51,9 @@ pub enum Act {
     Manager,
     Spam(bool),
     ExitThread,
-    /// A process ends.
+    /// A process ends; or in parts, of which this is the first one: its threads end.
     End,
+    EndPart(Part),
     Command(Command),
     /// A transaction or reply in parts: it holds its target and its objects, its objects get their numbers, and it comes to a list.
     Hold(Command),
@@ -61,6 +62,14 @@ pub enum Act {
     /// The other half of what a command has released.
     Finish,
     Read(u32),
+}
+
+/// What of a process goes behind its threads where it ends in parts.
+#[derive(Clone, Copy, Debug)]
+pub enum Part {
+    Objects,
+    Names,
+    Rest,
 }
 
 /// What a read has got: returns without BR_NOOP, as codes with a ptr or a cookie, and the parcel.
@@ -147,6 +156,8 @@ pub struct Recording {
     /// What was read into which process at which address: when, and which step that was.
     deliveries: HashMap<(usize, u64), Vec<(u64, u64)>>,
     by_id: HashMap<u64, u64>,
+    /// Replies that the trace has: their tracks, places and callers' threads.
+    replies: Vec<(usize, usize, u32)>,
 }
 
 /// What a step is called, so that no two are alike: its track and its number there.
@@ -175,6 +186,7 @@ impl Recording {
         found.make_tracks(&files, &trace);
         found.name_buffers();
         found.foresee();
+        found.foresee_replies();
         found.match_calls();
         found.add_absent();
         found.add_processes();
@@ -368,6 +380,10 @@ impl Recording {
                 if goes_on {
                     step.wanted = Wanted::Taken;
                 }
+                if let Some(caller) = traced.and_then(|it| it.answered.get(&place)) {
+                    let index = self.tracks[track].steps.len() - 1;
+                    self.replies.push((track, index, *caller));
+                }
             }
             at = next;
             place += 1;
@@ -552,6 +568,25 @@ impl Recording {
         }
     }
 
+    /// A reply was refused where nobody has read it, and its caller has read a refusal in its place.
+    fn foresee_replies(&mut self) {
+        let reads = self.tracks.iter().flat_map(|it| &it.steps).filter(|it| matches!(it.act, Act::Read(_)));
+        let read: HashSet<u64> = reads.filter_map(|it| it.id).collect();
+        for (track, index, caller) in std::mem::take(&mut self.replies) {
+            let (id, begin) = (self.tracks[track].steps[index].id, self.tracks[track].steps[index].begin);
+            let is_end = |it: &&(u32, u64)| matches!(it.0, BR_REPLY | BR_FAILED_REPLY | BR_DEAD_REPLY);
+            let end_of = |step: &Step| match &step.wanted {
+                Wanted::Got(got) if step.end >= begin => got.kinds.iter().find(is_end).map(|it| it.0),
+                _ => None,
+            };
+            let mut its = self.tracks.iter().filter(|it| it.tid == Some(caller)).flat_map(|it| &it.steps);
+            let is_refused = its.find_map(end_of) == Some(BR_FAILED_REPLY);
+            if is_refused && id.map_or(false, |it| !read.contains(&it)) {
+                self.tracks[track].steps[index].wanted = Wanted::Refused;
+            }
+        }
+    }
+
     /// Each process opens by itself, and ends some time after the last that is known of it.
     fn add_processes(&mut self) {
         for index in 0..self.processes.len() {
@@ -650,6 +685,10 @@ fn take_step_apart(step: Step, ways: Ways, to: &mut Vec<Step>) {
             let got = got.clone();
             return read_in_parts(&step, &got, to);
         }
+    }
+    if let (Act::End, true) = (&step.act, ways.has(Way::Ended)) {
+        let parts = [Part::Objects, Part::Names, Part::Rest].map(Act::EndPart);
+        return to.extend(std::iter::once(Act::End).chain(parts).map(|act| Step { act, ..step.clone() }));
     }
     let command = match &step.act {
         Act::Command(command) if !matches!(step.wanted, Wanted::Fails) => command.clone(),

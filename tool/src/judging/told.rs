@@ -36,6 +36,9 @@ pub fn step(step: &Step) -> String {
         (Act::Spam(_), _) => "asks for reports of flooding".into(),
         (Act::ExitThread, _) => "leaves".into(),
         (Act::End, _) => "ends".into(),
+        (Act::EndPart(Part::Objects), _) => "has ended, and its objects go".into(),
+        (Act::EndPart(Part::Names), _) => "has ended, and its names go".into(),
+        (Act::EndPart(Part::Rest), _) => "has ended, and what it hadn't read goes".into(),
         (Act::Command(command), wanted) => {
             let mut text = command.message.code.name.to_string();
             if let crate::codes::Payload::Handle(handle) = command.message.payload {

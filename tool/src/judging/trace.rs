@@ -19,6 +19,8 @@ pub struct Traced {
     pub numbered: HashMap<usize, (u64, u64)>,
     /// .. and when it was begun, or when its buffer's references were about to go: nothing that others see was done before.
     pub begun: HashMap<usize, u64>,
+    /// .. and of a reply, whose call it answers: that thread.
+    pub answered: HashMap<usize, u32>,
     /// The transaction that was read.
     pub received: Option<u64>,
 }
@@ -54,6 +56,9 @@ impl Traced {
             "read_done" => self.read = Some(at),
             "transaction" => {
                 self.sent.extend(transaction().map(|it| (last, it)));
+                if number(words, "reply") == Some(1) {
+                    self.answered.extend(number(words, "dest_thread").map(|it| (last, it as u32)));
+                }
                 self.begun.insert(last, at);
             }
             "transaction_received" => self.received = transaction(),
@@ -107,5 +112,14 @@ mod tests {
         let call = &trace[&12][0];
         assert_eq!((call.begin, &call.commands[..]), (22_000_005_000, &[22_000_006_000][..]));
         assert_eq!((call.sent[&0], call.numbered[&0]), (9, (22_000_009_000, 22_000_009_000)));
+        assert!(call.answered.is_empty());
+    }
+
+    #[test]
+    fn of_a_reply_it_is_told_whose_call_it_answers() {
+        let text = " a-12  [002] .....    22.000005: binder_ioctl: cmd=0xc0306201 arg=0x7f\n\
+             a-12  [002] .....    22.000006: binder_command: cmd=0x40406301 BC_REPLY\n\
+             a-12  [002] .....    22.000007: binder_transaction: transaction=9 dest_node=0 dest_proc=3 dest_thread=14 reply=1 code=0x0\n";
+        assert_eq!(read(text)[&12][0].answered[&0], 14);
     }
 }

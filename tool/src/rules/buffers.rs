@@ -277,8 +277,10 @@ impl Space {
             key: 0,
             id: self.transaction,
         };
+        let left_by = self.take_hole(buffer);
         self.process_mut(buffer.0, |it| it.buffers.insert(buffer.1, new));
-        let floods = is_one_way && self.floods(buffer.0, sender);
+        let uncounted = Some(buffer.1).filter(|_| self.does(Way::Uncounted) && left_by != Some(sender));
+        let floods = is_one_way && self.floods(buffer.0, sender, uncounted);
         if let Some(it) = self.buffer_mut(buffer) {
             it.is_suspect = floods;
         }
@@ -339,18 +341,40 @@ impl Space {
         Some(handle)
     }
 
-    /// Whether a one-way call that a process has sent is reported as flooding.
-    fn floods(&mut self, receiver: ProcessId, sender: ProcessId) -> bool {
+    /// A buffer begins where a hole begins: who had sent the buffer that was there before.
+    fn take_hole(&mut self, buffer: BufferId) -> Option<ProcessId> {
+        self.processes.get_mut(buffer.0)?.left_by.remove(&buffer.1)
+    }
+
+    /// A buffer becomes a hole, or a part of the one before it; the one behind it becomes a part of it.
+    fn leave_hole(&mut self, buffer: BufferId, its: &Buffer) {
+        if !self.does(Way::Uncounted) {
+            return;
+        }
+        let sender = its.sender;
+        let behind = buffer.1.saturating_add(its.needed);
+        if let Some(process) = self.processes.get_mut(buffer.0) {
+            let ends = process.buffers.iter().map(|(place, it)| (place, place.saturating_add(it.needed)));
+            let before = ends.filter(|it| it.0 < buffer.1).map(|it| it.1).max().unwrap_or(0);
+            process.left_by.remove(&behind);
+            if before == buffer.1 {
+                process.left_by.insert(buffer.1, sender);
+            }
+        }
+    }
+
+    /// Whether a one-way call that a process has sent is reported as flooding. It may not be counted itself yet.
+    fn floods(&mut self, receiver: ProcessId, sender: ProcessId, uncounted: Option<u64>) -> bool {
         let goes_drivers_way = self.does(Way::Spam);
         let is_marked = self.processes.get(sender).map_or(false, |it| it.is_marked);
         let its = match self.processes.get_mut(receiver) {
             Some(it) => it,
             None => return false,
         };
-        let one_way = || its.buffers.iter().map(|it| it.1).filter(|it| it.is_one_way);
-        let (count, own) =
-            one_way().filter(|it| it.sender == sender).fold((0, 0), |sum, it| (sum.0 + 1, sum.1 + it.needed));
-        let spent: u64 = one_way().map(|it| it.needed).sum();
+        let one_way = || its.buffers.iter().filter(|it| it.1.is_one_way);
+        let own = one_way().filter(|it| it.1.sender == sender && Some(it.0) != uncounted);
+        let (count, own) = own.fold((0, 0), |sum, it| (sum.0 + 1, sum.1 + it.1.needed));
+        let spent: u64 = one_way().map(|it| it.1.needed).sum();
         if !goes_drivers_way {
             return is_marked && own > its.window / 4;
         }
@@ -369,6 +393,7 @@ impl Space {
             Some(it) => it,
             None => return,
         };
+        self.leave_hole(buffer, &its);
         if let Some(target) = its.target {
             self.end_turn(target, buffer);
             self.local_down(target, STRONG);
@@ -410,13 +435,23 @@ impl Space {
         }
     }
 
+    /// Which of the receiver's own objects a buffer holds: the driver holds each weakly while it lets go of it.
+    fn own_objects_in(&self, buffer: BufferId) -> Vec<(ObjectId, usize)> {
+        let own = |it: &&Entry| it.receiver.is_none();
+        let entries = self.buffer(buffer).map_or(&[][..], |it| &it.entries);
+        entries.iter().filter(own).map(|it| (it.object, WEAK)).collect()
+    }
+
     /// BC_FREE_BUFFER.
-    pub(super) fn free(&mut self, process: ProcessId, pointer: u64) -> Told {
+    pub(super) fn free(&mut self, seat: Seat, process: ProcessId, pointer: u64) -> Told {
         let place = pointer.wrapping_sub(FIRST_POINTER);
         match self.buffer((process, place)).map(|it| it.is_handed) {
             None => Told::Noted(5),
             Some(false) => Told::Noted(6),
             Some(true) => {
+                if self.does(Way::Released) {
+                    self.hold(seat, self.own_objects_in((process, place)));
+                }
                 self.end_buffer((process, place));
                 Told::Accepted
             }

@@ -57,7 +57,8 @@ impl Space {
                 Some(object) => object,
             }
         };
-        if self.objects.get(object).map_or(false, |it| it.owner_lives) {
+        let is_ending = self.processes.get(object.0).map_or(false, |it| it.is_ending);
+        if self.objects.get(object).map_or(false, |it| it.owner_lives) && !is_ending {
             Ok(object)
         } else {
             Err(4)

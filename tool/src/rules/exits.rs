@@ -74,29 +74,63 @@ impl Space {
     }
 
     pub fn exit_process(&mut self, process: ProcessId) {
+        self.end_threads(process);
+        self.end_objects(process);
+        self.end_names(process);
+        self.end_rest(process);
+        self.follow();
+    }
+
+    /// The same in parts (`Way::Ended`): first its threads, from when on nobody can call it; then its objects, of which deaths are told;
+    /// then its names, and last what is there for it to read.
+    pub fn exit_threads(&mut self, process: ProcessId) {
+        self.process_mut(process, |it| it.is_ending = true);
+        self.end_threads(process);
+        self.follow();
+    }
+
+    pub fn exit_objects(&mut self, process: ProcessId) {
+        self.end_objects(process);
+        self.follow();
+    }
+
+    pub fn exit_names(&mut self, process: ProcessId) {
+        self.end_names(process);
+        self.follow();
+    }
+
+    pub fn exit_rest(&mut self, process: ProcessId) {
+        self.end_rest(process);
+        self.follow();
+    }
+
+    fn end_threads(&mut self, process: ProcessId) {
         let seats: Vec<Seat> = self.threads.iter().filter(|it| it.1.process == process).map(|it| it.0).collect();
         for seat in seats {
             self.end_thread(seat);
         }
-        let its = match self.processes.get(process) {
-            Some(it) => it.clone(),
-            None => return,
-        };
-        for item in &its.todo {
+    }
+
+    fn end_names(&mut self, process: ProcessId) {
+        let handles: Vec<u32> = self.processes.get(process).map_or(Vec::new(), |it| it.names.keys().collect());
+        for handle in handles {
+            self.end_name(process, handle);
+        }
+    }
+
+    /// Calls that nobody has read lose their server, and the process goes with its window.
+    fn end_rest(&mut self, process: ProcessId) {
+        let todo = self.processes.get(process).map_or(Todo::new(), |it| it.todo.clone());
+        for item in &todo {
             if let Item::Call(buffer) = &item.item {
                 if let Some(frame) = self.buffer(*buffer).and_then(|it| it.frame) {
                     self.lose_server(frame);
                 }
             }
         }
-        self.end_objects(process);
-        for handle in its.names.keys() {
-            self.end_name(process, handle);
-        }
         self.end_buffers(process);
         self.processes.remove(process);
         self.forget_process(process);
-        self.follow();
     }
 
     /// What the buffers of a window hold of others' objects has gone with the names.

@@ -13,6 +13,8 @@ mod calls;
 mod deaths;
 pub mod dialogue;
 mod exits;
+#[cfg(test)]
+mod halves;
 mod memory;
 mod objects;
 mod play;
@@ -149,6 +151,12 @@ pub struct Process {
     pub by: By,
     pub window: u64,
     pub is_marked: bool,
+    /// Whether it has begun to end (`Way::Ended`).
+    #[serde(skip)]
+    pub is_ending: bool,
+    /// Where holes of its window begin: who had sent the buffer before (`Way::Uncounted`).
+    #[serde(skip)]
+    pub left_by: BTreeMap<u64, ProcessId>,
     /// Whether its window is being flooded, by the driver's measure.
     pub is_flooded: bool,
     pub todo: Todo,
@@ -453,6 +461,8 @@ impl Space {
             by: By(Some(self.current)),
             window,
             is_marked: false,
+            is_ending: false,
+            left_by: BTreeMap::new(),
             is_flooded: false,
             todo: VecDeque::new(),
             names: Table::default(),

@@ -150,9 +150,10 @@ impl Space {
 
     /// The other half of what a seat's command has released: names go to which nothing leads any more (`Way::Released`).
     pub fn finish_release(&mut self, seat: Seat, process: ProcessId) {
+        self.release_held(seat);
         let its = match self.processes.get_mut(process) {
             Some(it) if it.unnamed.iter().any(|it| it.0 == seat) => it,
-            _ => return,
+            _ => return self.follow(),
         };
         let handles: Vec<u32> = its.unnamed.iter().filter(|it| it.0 == seat).map(|it| it.1).collect();
         its.unnamed.retain(|it| it.0 != seat);
@@ -217,11 +218,16 @@ impl Space {
     }
 
     /// Lets go of what was held so.
-    pub(super) fn let_go(&mut self, held: &[(ObjectId, usize)]) {
-        for (object, strength) in held {
+    pub(super) fn release_held(&mut self, seat: Seat) {
+        let held = self.threads.get_mut(seat).map_or(Vec::new(), |it| std::mem::take(&mut it.held));
+        for (object, strength) in &held {
             if let Some(it) = self.objects.get_mut(*object) {
                 it.held[*strength] = it.held[*strength].saturating_sub(1);
             }
+        }
+        for (object, strength) in held {
+            self.lost(object, strength);
+            self.touch(object);
         }
     }
 

@@ -27,16 +27,18 @@ pub enum Way {
     Fit,
     Spam,
     Long,
+    Uncounted,
     Numbered,
     Held,
     Released,
     Pieces,
+    Ended,
     OwnPid,
 }
 
 /// The name of each, as the documents and the command line have it, and whether scripts can show it: the others come about only
 /// while two threads are inside of the driver at once.
-pub static WAYS: [(Way, &str, bool); 26] = [
+pub static WAYS: [(Way, &str, bool); 28] = [
     (Way::Room, "room", true),
     (Way::Looper, "looper", true),
     (Way::Waiter, "waiter", true),
@@ -58,10 +60,12 @@ pub static WAYS: [(Way, &str, bool); 26] = [
     (Way::Fit, "fit", true),
     (Way::Spam, "spam", true),
     (Way::Long, "long", true),
+    (Way::Uncounted, "uncounted", true),
     (Way::Numbered, "numbered", false),
     (Way::Held, "held", false),
     (Way::Released, "released", false),
     (Way::Pieces, "pieces", false),
+    (Way::Ended, "ended", false),
     (Way::OwnPid, "own_pid", false),
 ];
 
@@ -90,7 +94,7 @@ impl Ways {
 
     /// Those with which a journal of whole steps can be followed: halves of steps aren't in it, and who waited is known by who has read.
     pub fn followed(self) -> Ways {
-        [Way::Waiter, Way::Numbered, Way::Held, Way::Released, Way::Pieces]
+        [Way::Waiter, Way::Numbered, Way::Held, Way::Released, Way::Pieces, Way::Ended]
             .iter()
             .fold(self, |ways, it| ways.without(*it))
     }

@@ -101,7 +101,7 @@ impl Space {
                 let half = self.prepare(seat, command, parcel);
                 return self.commit(seat, half, None);
             }
-            (BC_FREE_BUFFER, Payload::Buffer(pointer)) => self.free(process, pointer),
+            (BC_FREE_BUFFER, Payload::Buffer(pointer)) => self.free(seat, process, pointer),
             (BC_INCREFS, Payload::Handle(handle)) => self.ask(process, handle, WEAK),
             (BC_ACQUIRE, Payload::Handle(handle)) => self.ask(process, handle, STRONG),
             (BC_DECREFS, Payload::Handle(handle)) => self.drop_asked(process, handle, WEAK),
@@ -164,17 +164,12 @@ impl Space {
         command: &Message,
         parcel: Option<(&[u8], &[u8])>,
     ) -> Result<BufferId, u8> {
-        let held = self.threads.get_mut(seat).map_or(Vec::new(), |it| std::mem::take(&mut it.held));
         let half = self.prepare(seat, command, parcel);
         let delivered = half.delivered;
         if let Some(it) = self.threads.get_mut(seat) {
             it.half = Some(half);
         }
-        self.let_go(&held);
-        for (object, strength) in held {
-            self.lost(object, strength);
-            self.touch(object);
-        }
+        self.release_held(seat);
         self.follow();
         delivered
     }
