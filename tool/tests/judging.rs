@@ -174,13 +174,13 @@ fn clients_alone_are_judged_as_far_as_it_goes() {
         ("oneway-20", "99 steps: lawful\n", "22 calls went to processes that weren't recorded"),
         (
             "waits",
-            // Where that comes furthest, the exits of both processes are in four parts each.
+            // Where it comes furthest, each process ends in four parts.
             "57 steps: unknown: no order was found beyond 41 steps\n",
             "4 calls went to processes that weren't recorded",
         ),
         (
             "nested-3",
-            "37 steps: unknown: no order was found beyond 3 steps\n",
+            "40 steps: unknown: no order was found beyond 3 steps\n",
             "nobody who was recorded is the context manager",
         ),
     ];
