@@ -28,7 +28,9 @@ MOST_ENDING = 20e3
 ROUNDS = 5
 # somebody's users: whose they are, the first, and how many; and how many turns of all there may be for each of so many calls beside them
 OWNER, FIRST, PERSONS = 1234567, 200000, 64
-MOST_TURNS, PERSONS_CALLS, PERSONS_ROUNDS = 32, 1000, 20
+MOST_TURNS, PERSONS_CALLS, PERSONS_ROUNDS = 32, 1000, 10
+# a call has so few turns where none of those beside has a processor
+ALONE = 4
 # a turn takes at most so many microseconds of the processor's time, whatever is asked for, and a device's first calls more than so many;
 # costly turns of an account take at most such a part of the time, a third but for what is made before it is told
 LEAST_TURN_TIME, MOST_TURN_TIME, MOST_COSTLY = 10, 1000, 0.38
@@ -134,11 +136,13 @@ def turns_for_a_call(build, program, words):
     with Stage(build, daemon=program) as stage:
         let_others_in(stage)
         rings = stage.start([build.fuzz("rings"), "persons", str(PERSONS), DEVICE, *words], client=False).wait_for("ready", 30)
-        while len(found) < PERSONS_ROUNDS and min(found, default=MOST_TURNS + 1) > MOST_TURNS:
+        while len(found) < PERSONS_ROUNDS and not any(ALONE < it <= MOST_TURNS for it in found):
             found.append(turns_for_each(stage, build))
+            expect(rings.runs(), "nobody is beside any more")
         rings.kill()
         time.sleep(0.2)  # until nobody is in the control group
-    return min(found)
+    expect(max(found) > ALONE, "none of those beside has had a processor")
+    return min(it for it in found if it > ALONE)
 
 
 def turns_for_each(stage, build):
