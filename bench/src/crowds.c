@@ -2,12 +2,12 @@
 /* A live engine in which much stands, and rounds that leave it as they found it: bench/crowds counts what they take, and tools/library
    sees that a crowd finds room, which no contract says.
 
-       crowds CROWD NUMBER ROUNDS
+       crowds CROWD NUMBER ROUNDS [stay]
 
    So many of the crowd stand first. A round is what the context manager's thread does with another process: a one-way call, and a call
    that is answered; where calls are queued, one more of these is made, and the oldest read, too. `round_of` alone makes it. At the end the
    crowd has to be there still: its last comers leave, reply, are read, let go of or freed. Then all that is left goes at once: the crowd's
-   process ends, and the context manager. */
+   process ends, and the context manager; unless it is to stay, as only rounds are counted. */
 #include "../../tools/asking.h"
 
 #include <stdio.h>
@@ -227,6 +227,12 @@ static bool both_go(uint32_t number)
     return owner_goes() && holder_goes();
 }
 
+/* The last thread that leaves ends its process. */
+static bool rest_goes(uint32_t number)
+{
+    return (looked_at(number) == number || owner_goes()) && holder_goes();
+}
+
 static bool each_goes(uint32_t number)
 {
     bool good = true;
@@ -328,8 +334,8 @@ static const struct {
     bool (*end)(uint32_t number);
     bool (*go)(uint32_t number);
 } CROWDS[] = {
-    {"threads", threads, calls_server, leave, both_go},      {"processes", processes, calls_server, leave, each_goes},
-    {"callers", callers, calls_server, leave, both_go},      {"nested", nested, calls_server, unwind, both_go},
+    {"threads", threads, calls_server, leave, rest_goes},     {"processes", processes, calls_server, leave, each_goes},
+    {"callers", callers, calls_server, leave, rest_goes},     {"nested", nested, calls_server, unwind, both_go},
     {"queued", queued, queues_one_more, drain, client_goes}, {"kept", kept, calls_server, let_go, both_go},
     {"watched", watched, calls_server, take_back, deaths_are_told}, {"unfreed", unfreed, calls_server, free_last, client_goes},
     {"parcel", parcels, sends_parcel, nothing_is_left, client_goes},
@@ -357,11 +363,11 @@ static bool stands(const char *name, uint32_t number)
 
 int main(int count, char **words)
 {
-    bool good = count == 4 && stands(words[1], (uint32_t)strtoul(words[2], NULL, 10));
+    bool good = count >= 4 && stands(words[1], (uint32_t)strtoul(words[2], NULL, 10));
     for (unsigned long left = good ? strtoul(words[3], NULL, 10) : 0; good && left > 0; left--)
         good = fills_parcel() && round_of();
-    good = good && end((uint32_t)strtoul(words[2], NULL, 10)) && go((uint32_t)strtoul(words[2], NULL, 10));
+    good = good && end((uint32_t)strtoul(words[2], NULL, 10)) && (count > 4 || go((uint32_t)strtoul(words[2], NULL, 10)));
     if (!good)
-        fprintf(stderr, "crowds: %s\n", complaint ? complaint : "crowds CROWD NUMBER ROUNDS");
+        fprintf(stderr, "crowds: %s\n", complaint ? complaint : "crowds CROWD NUMBER ROUNDS [stay]");
     return good ? 0 : 1;
 }
