@@ -92,6 +92,8 @@ impl<N: Numbering, T: Copy> Lists<N, T> {
             (Shows f c N.same (N.number self.new.numbers) self.new.chains) (λ rs. rs) }
         ensures gone { (f : T → N.Key) (c : T → Bool) (rs : List (Row T)) → Shows f c N.same (N.number self.old.numbers) self.old.chains rs
             → list_any (λ v. N.same key (f v)) (values rs) ≡ false → N.number self.new.numbers key ≡ None }
+        // No list comes.
+        ensures fewer { (k : N.Key) → N.number self.old.numbers k ≡ None → N.number self.new.numbers k ≡ None }
         ensures uses { lists_room self.old.chains (N.room self.old.numbers) ≤ lists_room self.new.chains (N.room self.new.numbers) }
     {
         if let Some(number) = self.numbers.of(key) {

@@ -141,6 +141,23 @@ partitioned m ss made r = λ i j d h k e. by i j d h k e (ltb i j) refl
         let same : i ≡ j = omega (arith, h, n) in
         subst (λ n. ltb (get_or ss n d).death.made made ≡ true) (sym same) e
 
+-- ---- by a guess
+
+pub within_slot : (ss : List Slot) (made i : ℕ) → IsRising 0 (deaths_in ss) → i < length ss
+    → ((d : Slot) → (get_or ss i d).death.made ≡ made) → IsWithin (of (is_notification made)) i (i + 1) ss
+within_slot ss made i r h e = record {
+  before = none_before (of (is_notification made)) ss i (λ k d a b.
+      let less = rising_at 0 ss k i d r a h in
+      let here = e d in
+      ne_eqb (get_or ss k d).death.made made (λ same. omega (arith, less, here, same)));
+  after = none_after (of (is_notification made)) ss (i + 1) (λ k d a b.
+      let more = rising_at 0 ss i k d r (omega (arith, a)) b in
+      let here = e d in
+      ne_eqb (get_or ss k d).death.made made (λ same. omega (arith, more, here, same)));
+}
+
+-- ---- by halves, to a point
+
 module _ (ss : List Slot) (made i : ℕ) (r : IsRising 0 (deaths_in ss))
     (p : IsPartitionPoint (λ s. ltb s.death.made made ≡ true) (λ s. ltb s.death.made made ≡ false) ss i) where
   before_point : list_any (of (is_notification made)) (take i ss) ≡ false

@@ -32,7 +32,7 @@ fn is_armed(phase: Phase) -> bool
 fn is_due(records: &Records, p: u64, x: &DeathNotification) -> bool
     ensures { Tells (ObjectsAre records.now) result (λ objects. due.is_due objects p x.now) }
 {
-    is_armed(x.phase) && records.owns(p, x.object, 0)
+    is_armed(x.phase) && records.owns(p, x.object)
 }
 
 // Whether the end of the process is to be told to another by this notification.

@@ -9,6 +9,7 @@ ghost use Rattle.bd_deaths.specs.Slots as spec;
 
 use crate::sharing::Sharing;
 use crate::slot::{Slot, told_from};
+use bd_numbered::Guesses;
 use bd_space::DeathNotification;
 use std::alloc::{AllocError, Global};
 use std::ops::Range;
@@ -23,6 +24,8 @@ pub(crate) struct DeathList {
     // Whether each was made after the one before, so that a place is found by halves.
     pub(crate) in_order: bool,
     pub(crate) sharing: Sharing,
+    // In which slot the notification of a place is.
+    pub(crate) guesses: Guesses,
 }
 
 impl Drop for DeathList {
@@ -33,7 +36,15 @@ impl Drop for DeathList {
             told_from: _,
             in_order: _,
             sharing: _,
+            guesses: _,
         } = self;
+    }
+}
+
+// Notes in which slots they are.
+fn note_slots(guesses: &mut Guesses, slots: &[Slot]) {
+    for (i, s) in slots.iter().enumerate() {
+        guesses.note(s.death.made, i);
     }
 }
 
@@ -50,6 +61,7 @@ impl DeathList {
             told_from: 0,
             in_order: true,
             sharing: Sharing::new(alloc),
+            guesses: Guesses::new(alloc),
         }
     }
 
@@ -62,7 +74,9 @@ impl DeathList {
         ensures grown { OnErr result (more ≤ list_room self.old → ⊥) }
     {
         self.slots.reserve(more)?;
-        self.sharing.reserve(more)
+        self.sharing.reserve(more)?;
+        self.guesses.reserve(self.slots.capacity());
+        Ok(())
     }
 
     /// One notification more, after the others.
@@ -73,6 +87,7 @@ impl DeathList {
         ensures uses { ListUses self.old self.new 1 }
     {
         self.sharing.add(&x);
+        self.guesses.note(x.made, self.slots.len());
         self.slots.push_reserved(Slot {
             death: x,
             live: true,
@@ -138,6 +153,7 @@ impl DeathList {
     {
         if self.gone > self.slots.len() / 2 {
             self.slots.retain(|s| s.live);
+            note_slots(&mut self.guesses, &self.slots);
             self.told_from = 0;
             self.gone = 0;
         }

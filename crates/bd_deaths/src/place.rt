@@ -1,12 +1,13 @@
 //! Where the notifications lie that are looked for.
 
-ghost use Rattle.std.specs.Prelude.{◌≡◌, ◌==◌, ◌≤◌, ◌+◌, not, length, vec_len, List, IfSome};
+ghost use Rattle.std.specs.Prelude.{◌≡◌, ◌==◌, ◌≤◌, ◌<◌, ◌+◌, true, not, length, vec_len, slice_index_or, List, IfSome};
 ghost use Rattle.std.specs.List.{list_any};
 ghost use Rattle.bd_keys.specs.Tables.{Tells};
 ghost use Rattle.bd_space.specs.Deaths as deaths_of;
 ghost use Rattle.bd_space.specs.declared.space.DeathNotification as declared;
 ghost use Rattle.bd_space.specs.Words.{is_some_and};
 ghost use Rattle.bd_ways.specs.Ranges.{IsWithin, IsPartOf};
+ghost use Rattle.bd_deaths.specs.declared.slot.Slot as declared_slot;
 ghost use Rattle.bd_deaths.specs.Keys as keys;
 ghost use Rattle.bd_deaths.specs.SharedAt.{group_at};
 ghost use Rattle.bd_deaths.specs.Slots as spec;
@@ -18,13 +19,29 @@ use crate::slot::Slot;
 use bd_space::DeathNotification;
 use std::ops::Range;
 
-/// Between which slots those of this place lie, of slots in the order of their places.
-fn range_in(slots: &[Slot], made: u64) -> Range<usize>
+/// Whether what is in the slot was made at this place.
+#[inline(always)]
+fn is_made_at(slots: &[Slot], i: usize, made: u64) -> bool
+    ensures within { result ≡ true → i < length slots.now }
+    ensures made { result ≡ true → (d : declared_slot.Slot) → (slice_index_or slots.now i d).death.made ≡ made }
+{
+    match slots.get(i) {
+        Some(s) => s.death.made == made,
+        None => false,
+    }
+}
+
+/// Between which slots those of this place lie, of slots in the order of their places. Looks into the slot `guess` first, whatever
+/// that is.
+fn range_in(slots: &[Slot], made: u64, guess: usize) -> Range<usize>
     ensures from { result.start ≤ result.end }
     ensures to { result.end ≤ length slots.now }
     ensures within { IsRising 0 (spec.deaths_in slots.now)
         → IsWithin (spec.of (deaths_of.is_notification made)) result.start result.end slots.now }
 {
+    if is_made_at(slots, guess, made) {
+        return guess..guess + 1;
+    }
     let from = slots.partition_point(|s| s.death.made < made);
     if from < slots.len() {
         from..from + 1
@@ -42,7 +59,7 @@ impl DeathList {
             → IsWithin (spec.of (deaths_of.is_notification made)) result.start result.end self.now.slots.items }
     {
         if self.in_order {
-            range_in(&self.slots, made)
+            range_in(&self.slots, made, self.guesses.among(made) as usize)
         } else {
             0..self.slots.len()
         }

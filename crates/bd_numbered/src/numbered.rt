@@ -18,7 +18,7 @@ use std::collections::HashMap;
 #[derive(Drop)]
 pub struct Numbered<T> {
     pub(crate) rows: Slab<Row<T>>,
-    // The slot of each process's row, asked where all guesses are wrong.
+    // The slot of each process's row, asked where a guess is wrong.
     pub(crate) slots: HashMap<u64, usize>,
     pub(crate) guesses: Guesses,
     pub(crate) alloc: Global,
@@ -36,32 +36,41 @@ impl<T: Copy> Numbered<T> {
         Numbered {
             rows: Slab::new(alloc),
             slots: HashMap::new(alloc),
-            guesses: Guesses::new(),
+            guesses: Guesses::new(alloc),
             alloc,
         }
     }
 
-    /// The slot of the process's row. `near` is a guess, which saves the look into the map where it is right.
+    /// The slot of the process's row.
     #[inline(always)]
-    pub fn slot_near(&self, p: u64, near: usize) -> Option<usize>
+    pub fn slot_of(&self, p: u64) -> Option<usize>
         ensures { result ≡ slot_at self.now p }
     {
-        if made_at(&self.rows, near) == Some(p) {
-            return Some(near);
-        }
         let guess = self.guesses.of(p) as usize;
         if made_at(&self.rows, guess) == Some(p) {
             return Some(guess);
+        }
+        self.slot_among(p)
+    }
+
+    // The same, of many rows.
+    #[inline(never)]
+    fn slot_among(&self, p: u64) -> Option<usize>
+        ensures { result ≡ slot_at self.now p }
+    {
+        let other = self.guesses.among(p) as usize;
+        if made_at(&self.rows, other) == Some(p) {
+            return Some(other);
         }
         self.slots.get(&p).copied()
     }
 
     /// What the process has under a number.
     #[inline(always)]
-    pub fn get(&self, p: u64, n: u32, near: usize) -> Option<T>
+    pub fn get(&self, p: u64, n: u32) -> Option<T>
         ensures { result ≡ value_at self.now p n }
     {
-        let k = self.slot_near(p, near)?;
+        let k = self.slot_of(p)?;
         match self.rows.get(k) {
             Some(row) => row.get(n),
             None => None,
@@ -70,10 +79,10 @@ impl<T: Copy> Numbered<T> {
 
     /// The same, where it stands.
     #[inline(always)]
-    pub fn look(&self, p: u64, n: u32, near: usize) -> Option<&T>
+    pub fn look(&self, p: u64, n: u32) -> Option<&T>
         ensures { option_copied result ≡ value_at self.now p n }
     {
-        let k = self.slot_near(p, near)?;
+        let k = self.slot_of(p)?;
         match self.rows.get(k) {
             Some(row) => row.look(n),
             None => None,
@@ -81,26 +90,26 @@ impl<T: Copy> Numbered<T> {
     }
 
     /// The first free number of the process, counted from 0 or from 1; none where that is past 4294967294.
-    pub fn free_number(&self, p: u64, from_zero: bool, near: usize) -> Option<u32>
+    pub fn free_number(&self, p: u64, from_zero: bool) -> Option<u32>
         ensures free { let first = (if from_zero then 0 else 1) in
             MatchOption result ((m : ℕ) → first ≤ m → m ≤ 4294967294 → is_some (value_at self.now p m) ≡ true)
             (λ n. IsFreeAt first self.now p n) }
         ensures within { IfSome result (λ n. n ≤ 4294967294) }
     {
-        match self.slot_near(p, near) {
+        match self.slot_of(p) {
             Some(k) => free_in(&self.rows, k, from_zero),
             None => Some(u32::from(!from_zero)),
         }
     }
 
     /// The first number of the process from this one on under which it has a value. Looks at each up to it.
-    pub fn next(&self, p: u64, from: u32, near: usize) -> Option<u32>
+    pub fn next(&self, p: u64, from: u32) -> Option<u32>
         ensures none { IfNone result ((m : ℕ) → from ≤ m → m < 2 ^ 32 → value_at self.now p m ≡ None) }
         ensures from { IfSome result (λ n. from ≤ n) }
         ensures there { IfSome result (λ n. is_some (value_at self.now p n) ≡ true) }
         ensures before { IfSome result (λ n. (m : ℕ) → from ≤ m → m < n → value_at self.now p m ≡ None) }
     {
-        let k = self.slot_near(p, near)?;
+        let k = self.slot_of(p)?;
         next_in(&self.rows, k, from)
     }
 
@@ -115,6 +124,7 @@ impl<T: Copy> Numbered<T> {
         row.reserve(more)?;
         reserve_rows(&mut self.rows)?;
         reserve_slots(&mut self.slots)?;
+        self.guesses.reserve(self.rows.capacity());
         let k = insert_row(&mut self.rows, row);
         insert_slot(&mut self.slots, p, k);
         self.guesses.note(p, k);
@@ -122,7 +132,7 @@ impl<T: Copy> Numbered<T> {
     }
 
     /// Makes room for so many more values of this process. Values stay as they are, whatever the answer is.
-    pub fn reserve(&mut self, p: u64, more: usize, near: usize) -> Result<(), AllocError>
+    pub fn reserve(&mut self, p: u64, more: usize) -> Result<(), AllocError>
         ensures kept { (q n : ℕ) → value_at self.new q n ≡ value_at self.old q n }
         ensures uses { (q : ℕ) → number_room self.old q ≤ number_room self.new q }
         ensures room { OnOk result (more ≤ number_room self.new p) }
@@ -132,14 +142,14 @@ impl<T: Copy> Numbered<T> {
         if more == 0 {
             return Ok(());
         }
-        match self.slot_near(p, near) {
+        match self.slot_of(p) {
             Some(k) => reserve_in(&mut self.rows, k, more),
             None => self.open(p, more),
         }
     }
 
     /// Puts the value at the process's first free number from 1 on, or at 0, and tells the number.
-    pub fn put(&mut self, p: u64, zero: bool, value: T, near: usize) -> usize
+    pub fn put(&mut self, p: u64, zero: bool, value: T) -> usize
         requires { 1 ≤ number_room self.old p }
         ensures put { (q n : ℕ) → value_at self.new q n
             ≡ (if (p == q) && (result == n) then Some value else value_at self.old q n) }
@@ -147,7 +157,7 @@ impl<T: Copy> Numbered<T> {
         ensures free { zero ≡ false → IsFreeAt 1 self.old p result }
         ensures uses { (q : ℕ) → number_room self.old q ≤ number_room self.new q + 1 }
     {
-        match self.slot_near(p, near) {
+        match self.slot_of(p) {
             Some(k) => put_in(&mut self.rows, k, zero, value),
             None => unreachable!(),
         }
@@ -155,38 +165,38 @@ impl<T: Copy> Numbered<T> {
 
     /// Writes over what the process has under a number.
     #[inline(always)]
-    pub fn set(&mut self, p: u64, n: u32, value: T, near: usize)
+    pub fn set(&mut self, p: u64, n: u32, value: T)
         requires { is_some (value_at self.old p n) ≡ true }
         ensures set { (q m : ℕ) → value_at self.new q m
             ≡ (if (p == q) && (n == m) then Some value else value_at self.old q m) }
         ensures uses { (q : ℕ) → number_room self.old q ≤ number_room self.new q }
     {
-        match self.slot_near(p, near) {
+        match self.slot_of(p) {
             Some(k) => set_in(&mut self.rows, k, n, value),
             None => unreachable!(),
         }
     }
 
     /// Takes out what the process has under a number, for which no memory is needed.
-    pub fn remove(&mut self, p: u64, n: u32, near: usize) -> Option<T>
+    pub fn remove(&mut self, p: u64, n: u32) -> Option<T>
         ensures gone { result ≡ value_at self.old p n }
         ensures at { (q m : ℕ) → value_at self.new q m
             ≡ (if (p == q) && (n == m) then None else value_at self.old q m) }
         ensures uses { (q : ℕ) → number_room self.old q ≤ number_room self.new q }
     {
-        match self.slot_near(p, near) {
+        match self.slot_of(p) {
             Some(k) => remove_in(&mut self.rows, k, n),
             None => None,
         }
     }
 
     /// Takes out the process's row with all that is in it: nothing of the process is kept.
-    pub fn close(&mut self, p: u64, near: usize)
+    pub fn close(&mut self, p: u64)
         ensures at { (q m : ℕ) → value_at self.new q m ≡ (if p == q then None else value_at self.old q m) }
         ensures row { slot_at self.new p ≡ None }
         ensures uses { (q : ℕ) → (p == q) ≡ false → number_room self.old q ≤ number_room self.new q }
     {
-        if let Some(k) = self.slot_near(p, near) {
+        if let Some(k) = self.slot_of(p) {
             remove_row(&mut self.rows, k);
             remove_slot(&mut self.slots, p);
         }

@@ -8,8 +8,8 @@ ghost use Rattle.bd_space.specs.{Names.{named_in as named_in_list}};
 ghost use Rattle.bd_records.specs.NamesAre.{NamesAre};
 
 use crate::naming::give_asked_name;
-use crate::table::{ANYWHERE, ObjectTable};
-use bd_records::{Near, NumbersFull, Records, named_object};
+use crate::table::ObjectTable;
+use bd_records::{NumbersFull, Records, named_object};
 use bd_space::{Holder, Identity, Object, Origin, Reference};
 use bd_uapi::Note;
 
@@ -20,7 +20,7 @@ fn asked_in(manager: Option<Identity>, records: &Records, p: u64, n: u32) -> Opt
 {
     match manager {
         Some(o) if n == 0 => Some(o),
-        _ => named_object(&records.names, p, n, 0),
+        _ => named_object(&records.names, p, n),
     }
 }
 
@@ -42,10 +42,10 @@ impl ObjectTable {
         ensures { TellsWhere (StandsFor self.now) (HasManager manager) result (λ s. asking.ask_check s p n strong) }
     {
         let o = asked_in(manager, &self.records, p, n).ok_or(Note::NoSuchNumber)?;
-        if strong && !self.records.hold(o, 0).is_strong {
+        if strong && !self.records.hold(o).is_strong {
             return Err(Note::NotStrong);
         }
-        if self.records.owns(p, o, 0) {
+        if self.records.owns(p, o) {
             return Err(Note::OwnManager);
         }
         Ok(o)
@@ -77,18 +77,12 @@ impl ObjectTable {
         self.sure_room = self.sure_room.saturating_sub(1);
         self.sure_names = self.sure_names.saturating_sub(1);
         give_asked_name(&mut self.records, manager, p, n, o)?;
-        self.records.push(
-            Reference {
-                id: Origin { place, index: 0 },
-                object: o,
-                strong,
-                holder: Holder::Asked(p),
-            },
-            Near {
-                number: n,
-                ..ANYWHERE
-            },
-        );
+        self.records.push(Reference {
+            id: Origin { place, index: 0 },
+            object: o,
+            strong,
+            holder: Holder::Asked(p),
+        });
         Ok(())
     }
 
@@ -98,12 +92,8 @@ impl ObjectTable {
     pub fn drop_check(&self, p: u64, n: u32, strong: bool) -> Result<Identity, Note>
         ensures { Tells (StandsFor self.now) result (λ s. asking.drop_check s p n strong) }
     {
-        let o = named_object(&self.records.names, p, n, 0).ok_or(Note::NoSuchNumber)?;
-        let near = Near {
-            number: n,
-            ..ANYWHERE
-        };
-        if !self.records.is_asked(p, o, strong, near) {
+        let o = named_object(&self.records.names, p, n).ok_or(Note::NoSuchNumber)?;
+        if !self.records.is_asked(p, o, strong) {
             return Err(Note::NothingAsked);
         }
         Ok(o)
@@ -115,7 +105,7 @@ impl ObjectTable {
         ensures stands { Makes (StandsFor self.old) (StandsFor self.new) (λ s. asking.drop_asked s p o strong) }
         ensures uses { UsesNothing self.old self.new }
     {
-        self.records.drop_asked(p, o, strong, ANYWHERE);
+        self.records.drop_asked(p, o, strong);
     }
 
     /// The own object that the process acknowledges, by ptr and cookie. Errors: it has no such object, or that waits
@@ -128,7 +118,7 @@ impl ObjectTable {
             .records
             .own_with(p, ptr, cookie)
             .ok_or(Note::NoSuchObject)?;
-        if !self.records.is_shaken(x.id, strong, 0) {
+        if !self.records.is_shaken(x.id, strong) {
             return Err(Note::NoHandshake);
         }
         Ok(x)
@@ -140,6 +130,6 @@ impl ObjectTable {
         ensures stands { Makes (StandsFor self.old) (StandsFor self.new) (λ s. asking.acknowledge s o strong) }
         ensures uses { UsesNothing self.old self.new }
     {
-        self.records.drop_shaken(o, strong, ANYWHERE);
+        self.records.drop_shaken(o, strong);
     }
 }

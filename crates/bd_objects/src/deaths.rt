@@ -23,7 +23,7 @@ impl ObjectTable {
     pub fn request_check(&self, p: u64, n: u32) -> Result<Identity, Note>
         ensures { Tells (StandsFor self.now) result (λ s. deaths_of.request_check s p n) }
     {
-        let o = named_object(&self.records.names, p, n, 0).ok_or(Note::NoSuchNumber)?;
+        let o = named_object(&self.records.names, p, n).ok_or(Note::NoSuchNumber)?;
         if self.deaths.uncleared(p, o).is_some() {
             return Err(Note::AlreadyAsked);
         }
@@ -56,7 +56,7 @@ impl ObjectTable {
     pub fn clear_check(&self, p: u64, n: u32, cookie: u64) -> Result<DeathNotification, Note>
         ensures { Tells (StandsFor self.now) result (λ s. deaths_of.clear_check s p n cookie) }
     {
-        let o = named_object(&self.records.names, p, n, 0).ok_or(Note::NoSuchNumber)?;
+        let o = named_object(&self.records.names, p, n).ok_or(Note::NoSuchNumber)?;
         let x = self.deaths.uncleared(p, o).ok_or(Note::NoneAsked)?;
         if x.cookie != cookie {
             return Err(Note::NoneAsked);

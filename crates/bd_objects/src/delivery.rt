@@ -10,7 +10,7 @@ ghost use Rattle.bd_records.specs.{Records.{RecordsAre, reference_room as room_i
 ghost use Rattle.bd_objects.specs.{Delivery.{AreReady}, New.{IsHere}};
 
 use crate::naming::give_names;
-use crate::table::{ANYWHERE, ObjectTable};
+use crate::table::ObjectTable;
 use bd_records::{NumbersFull, Records, name_number};
 use bd_space::{Holder, Identity, Item, Object, Origin, Reference};
 use bd_uapi::{FlatObject, ObjectKind};
@@ -72,7 +72,7 @@ fn add_carried(records: &mut Records, place: u64, q: u64, items: &[Item])
     ensures uses { Uses records.old records.new 0 (length items.now) 0 }
 {
     for (i, x) in items.iter().enumerate() {
-        records.push(carried_reference(place, q, i, x), ANYWHERE);
+        records.push(carried_reference(place, q, i, x));
     }
 }
 
@@ -95,7 +95,7 @@ fn add_target(records: &mut Records, place: u64, q: u64, index: usize, target: O
             strong: true,
             holder: Holder::Target(place, q),
         };
-        records.push(r, ANYWHERE);
+        records.push(r);
     }
 }
 
@@ -128,11 +128,11 @@ impl ObjectTable {
     pub fn translated(&self, q: u64, x: &Item) -> FlatObject
         ensures { Tells (StandsFor self.now) result (λ s. translations.translated s.objects s.names q x.now) }
     {
-        match self.records.own_object(q, x.object, 0) {
+        match self.records.own_object(q, x.object) {
             Some(o) => as_own(&x.flat, &o),
             None => as_handle(
                 &x.flat,
-                name_number(&self.records.names, q, x.object, 0, 0).unwrap_or(0),
+                name_number(&self.records.names, q, x.object).unwrap_or(0),
             ),
         }
     }

@@ -1,6 +1,6 @@
 //! What goes when a process ends.
 
-ghost use Rattle.std.specs.Prelude.{◌≡◌, ◌==◌, ◌||◌, ◌++◌, true, map, filter, OnOk, OnErr};
+ghost use Rattle.std.specs.Prelude.{ℕ, ◌≡◌, ◌==◌, ◌||◌, ◌++◌, true, None, map, filter, OnOk, OnErr};
 ghost use Rattle.std.specs.List.{list_any};
 ghost use Rattle.bd_space.specs.ProcessExits as process_exits;
 
@@ -11,7 +11,8 @@ use std::alloc::AllocError;
 impl ObjectTable {
     ghost use Rattle.bd_space.specs.Space.{Space};
     ghost use Rattle.bd_ways.specs.Tables.{Makes};
-    ghost use Rattle.bd_records.specs.New.{HasAll};
+    ghost use Rattle.bd_numbered.specs.Numbered.{slot_at};
+    ghost use Rattle.bd_records.specs.{New.{HasAll}, Ending.{LiesIn}, Buffers.{list_of, window_list}};
     ghost use Rattle.bd_objects.specs.{Stands.{StandsFor}, Room.{UsesNothingBut}};
 
     /// The references, names and death notifications go that go with the process.
@@ -19,6 +20,10 @@ impl ObjectTable {
     pub fn without_process(&mut self, p: u64)
         ensures stands { Makes (StandsFor self.old) (StandsFor self.new) (λ s. process_exits.without_process s p) }
         ensures uses { UsesNothingBut p self.old self.new }
+        // What has gone leaves nothing behind: its row of names, its window's list, and those of the buffers in its window.
+        ensures names { slot_at self.new.records.names.rows p ≡ None }
+        ensures window { (s : Space) → StandsFor self.old s → window_list self.new.records.held p ≡ None }
+        ensures buffers { (s : Space) (b : ℕ) → StandsFor self.old s → LiesIn p b s.references → list_of self.new.records.held b ≡ None }
     {
         // It may be the process for whose names there was room.
         self.sure_names = 0;

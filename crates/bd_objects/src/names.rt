@@ -8,7 +8,7 @@ ghost use Rattle.bd_space.specs.Notices.{is_name_of};
 ghost use Rattle.bd_space.specs.Space.{Space};
 ghost use Rattle.bd_records.specs.Numbers.{IsNextNumber};
 
-use crate::table::{ANYWHERE, ObjectTable};
+use crate::table::ObjectTable;
 use bd_records::{name_number, named_object, next_number};
 use bd_space::Identity;
 
@@ -21,21 +21,21 @@ impl ObjectTable {
     pub fn named(&self, p: u64, n: u32) -> Option<Identity>
         ensures { Tells (StandsFor self.now) result (λ s. names_of.named s p n) }
     {
-        named_object(&self.records.names, p, n, 0)
+        named_object(&self.records.names, p, n)
     }
 
     /// The least number from this one on that names something for the process. Looks at each number up to it.
     pub fn next_number(&self, p: u64, from: u32) -> Option<u32>
         ensures { (s : Space) → StandsFor self.now s → IsNextNumber s.names p from result }
     {
-        next_number(&self.records.names, p, from, 0)
+        next_number(&self.records.names, p, from)
     }
 
     /// Whether the process is to have a name for the object: it is another's, and a reference carries the name.
     pub(crate) fn is_named(&self, p: u64, o: Identity) -> bool
         ensures { Tells (StandsFor self.now) result (λ s. names_of.is_named_in s.objects s.references p o) }
     {
-        !self.records.owns(p, o, 0) && self.records.refers(p, o, ANYWHERE)
+        !self.records.owns(p, o) && self.records.refers(p, o)
     }
 
     /// The same, where a strong reference carries it.
@@ -44,7 +44,7 @@ impl ObjectTable {
             (λ s. not (refer.owned_in s.objects p o)
             && list_any (λ r. r.strong && same r.object o && refer.gives_name_to p r.holder) s.references) }
     {
-        !self.records.owns(p, o, 0) && self.records.refers_strongly(p, o, ANYWHERE)
+        !self.records.owns(p, o) && self.records.refers_strongly(p, o)
     }
 
     /// The object that the number names for the process, where the process refers to it strongly.
@@ -52,7 +52,7 @@ impl ObjectTable {
     pub fn strongly_named(&self, p: u64, n: u32) -> Option<Identity>
         ensures { Tells (StandsFor self.now) result (λ s. names_of.strongly_named s p n) }
     {
-        let o = named_object(&self.records.names, p, n, 0)?;
+        let o = named_object(&self.records.names, p, n)?;
         if self.is_strongly_named(p, o) {
             Some(o)
         } else {
@@ -64,13 +64,13 @@ impl ObjectTable {
     pub(crate) fn has_name(&self, p: u64, o: Identity) -> bool
         ensures { Tells (StandsFor self.now) result (λ s. is_name_of s.names p o) }
     {
-        name_number(&self.records.names, p, o, 0, 0).is_some()
+        name_number(&self.records.names, p, o).is_some()
     }
 
     /// The process's number of the object.
     pub fn number_of(&self, p: u64, o: Identity) -> Option<u32>
         ensures { Tells (StandsFor self.now) result (λ s. names_of.number_in s.names p o) }
     {
-        name_number(&self.records.names, p, o, 0, 0)
+        name_number(&self.records.names, p, o)
     }
 }

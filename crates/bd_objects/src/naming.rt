@@ -11,7 +11,6 @@ ghost use Rattle.bd_records.specs.Numbers.{IsFull};
 ghost use Rattle.bd_records.specs.{Records.{RecordsAre}, NamesAre.{NamesAre}, Since.{Since, Settled, given_room}, Room.{Uses}};
 ghost use Rattle.bd_objects.specs.{Naming.{with_name_unless, with_other_name, AreReferred}, Numbers.{IsPastLimit}};
 
-use crate::table::ANYWHERE;
 use bd_records::{NumbersFull, Records, named_object};
 use bd_space::{Identity, Item, Object};
 
@@ -46,7 +45,7 @@ pub(crate) fn give_name(
     if own {
         return Ok(());
     }
-    records.give_name(is_managers(manager, o), p, o, ANYWHERE)
+    records.give_name(is_managers(manager, o), p, o)
 }
 
 /// The same for a process that asked for the object by a number: where that is the object's already, nothing else is looked at.
@@ -70,10 +69,10 @@ pub(crate) fn give_asked_name(
         → IsFull (names_of.is_managers manager o) p l o) }
     ensures uses { Uses records.old records.new 0 0 1 }
 {
-    if named_object(&records.names, p, n, 0) == Some(o) {
+    if named_object(&records.names, p, n) == Some(o) {
         return Ok(());
     }
-    let own = records.owns(p, o, 0);
+    let own = records.owns(p, o);
     give_name(records, manager, own, p, o)?;
     records.settle_names();
     Ok(())
@@ -103,7 +102,7 @@ fn is_own(records: &Records, made: &[Object], p: u64, o: Identity) -> bool
     ensures { (objects : List Object) (l : List Reference) → RecordsAre records.now objects l
         → result ≡ refer.owned_in (objects ++ made.now) p o }
 {
-    records.owns(p, o, 0) || owned_in(made, p, o)
+    records.owns(p, o) || owned_in(made, p, o)
 }
 
 /// Gives the process a number for the object of each item, in their order, unless it is its own, or nothing where a

@@ -44,6 +44,6 @@ impl ObjectTable {
         ensures { TellsWhere (StandsFor self.now) (HasProcesses processes.now) result
             (λ s. notices.wants_notice s.processes s.references x.now) }
     {
-        owner_to_tell(self.records.hold(x.id, 0), processes.lives(x.owner), x).is_some()
+        owner_to_tell(self.records.hold(x.id), processes.lives(x.owner), x).is_some()
     }
 }

@@ -3,9 +3,8 @@
 ghost use Rattle.std.specs.Prelude.{◌≡◌, ◌≤◌, if◌then◌else◌, Option, Some, None, option_and_then};
 ghost use Rattle.bd_space.specs.References as refer;
 
-use crate::table::{ANYWHERE, ObjectTable};
+use crate::table::ObjectTable;
 use bd_processes::ProcessTable;
-use bd_records::Near;
 use bd_space::{Holder, Identity, Object, Origin, Reference};
 
 fn managed(place: u64) -> Identity
@@ -25,14 +24,14 @@ impl ObjectTable {
     pub fn object(&self, o: Identity) -> Option<Object>
         ensures { Tells (StandsFor self.now) result (λ s. refer.object_in s.objects o) }
     {
-        self.records.object(o, 0)
+        self.records.object(o)
     }
 
     /// Whether the process owns the object.
     pub fn owns(&self, p: u64, o: Identity) -> bool
         ensures { Tells (StandsFor self.now) result (λ s. refer.owned_in s.objects p o) }
     {
-        self.records.owns(p, o, 0)
+        self.records.owns(p, o)
     }
 
     /// Whether the object's owner lives. Takes the live processes.
@@ -40,7 +39,7 @@ impl ObjectTable {
         ensures { TellsWhere (StandsFor self.now) (HasProcesses processes.now) result
             (λ s. is_some_and (refer.object_in s.objects o) (λ x. lives_in s.processes x.owner)) }
     {
-        match self.records.object(o, 0) {
+        match self.records.object(o) {
             Some(x) => processes.lives(x.owner),
             None => false,
         }
@@ -66,7 +65,7 @@ impl ObjectTable {
     {
         self.sure_room = self.sure_room.saturating_sub(1);
         let id = managed(place);
-        let object = self.records.add_object(Object {
+        let _object = self.records.add_object(Object {
             id,
             owner: p,
             ptr: 0,
@@ -74,15 +73,12 @@ impl ObjectTable {
             told_weak: true,
             told_strong: true,
         });
-        self.records.push(
-            Reference {
-                id: Origin { place, index: 0 },
-                object: id,
-                strong: true,
-                holder: Holder::Manager,
-            },
-            Near { object, ..ANYWHERE },
-        );
+        self.records.push(Reference {
+            id: Origin { place, index: 0 },
+            object: id,
+            strong: true,
+            holder: Holder::Manager,
+        });
     }
 
     /// The context manager's object that is left when the process has ended.
@@ -91,7 +87,7 @@ impl ObjectTable {
             (λ s. option_and_then (λ o. if refer.owned_in s.objects p o then None else Some o) manager) }
     {
         match manager {
-            Some(o) if self.records.owns(p, o, 0) => None,
+            Some(o) if self.records.owns(p, o) => None,
             _ => manager,
         }
     }

@@ -13,7 +13,7 @@ ghost use Rattle.bd_records.specs.{Records.{RecordsAre, Tells as TellsOf, refere
 ghost use Rattle.bd_records.specs.Room as rooms_of;
 ghost use Rattle.bd_objects.specs.{Reading.{owed, HoldsAlike}, New.{IsHere}};
 
-use crate::table::{ANYWHERE, ObjectTable};
+use crate::table::ObjectTable;
 use bd_records::{Hold, Records};
 use bd_space::{Holder, Identity, Object, Origin, Reference, Work, WorkKind};
 use bd_uapi::Return;
@@ -29,7 +29,7 @@ fn return_when(test: bool, r: Return) -> Option<Return>
 fn notice_returns_of(records: &Records, x: &Object) -> [Option<Return>; 4]
     ensures { TellsOf records.now (flat_map option_to_list result) (λ l. returns.notice_returns l x.now) }
 {
-    let Hold { is_held, is_strong } = records.hold(x.id, 0);
+    let Hold { is_held, is_strong } = records.hold(x.id);
     [
         return_when(is_held && !x.told_weak, Return::Increfs(x.ptr, x.cookie)),
         return_when(
@@ -63,8 +63,8 @@ fn tell_owner(records: &mut Records, kind: WorkKind)
 {
     match notice_of(kind) {
         Some(o) => {
-            let hold = records.hold(o, 0);
-            records.set_told(o, hold.is_held, hold.is_strong, 0);
+            let hold = records.hold(o);
+            records.set_told(o, hold.is_held, hold.is_strong);
         }
         None => {}
     }
@@ -88,9 +88,9 @@ fn acknowledgements(records: &Records, o: Identity) -> (bool, bool)
     ensures here { (objects : List Object) (l : List Reference) → RecordsAre records.now objects l
         → (result.0 || result.1) ≡ true → IsHere o objects }
 {
-    match records.object(o, 0) {
+    match records.object(o) {
         Some(x) => {
-            let hold = records.hold(x.id, 0);
+            let hold = records.hold(x.id);
             (
                 hold.is_held && !x.told_weak,
                 hold.is_strong && !x.told_strong,
@@ -121,11 +121,11 @@ fn add_acknowledgements(
 {
     let mut next = index;
     if weak {
-        records.push(handshake(place, next, o, false), ANYWHERE);
+        records.push(handshake(place, next, o, false));
         next += 1;
     }
     if strong {
-        records.push(handshake(place, next, o, true), ANYWHERE);
+        records.push(handshake(place, next, o, true));
         next += 1;
     }
     next
@@ -187,7 +187,7 @@ impl ObjectTable {
         ensures { Tells (StandsFor self.now) (flat_map option_to_list result)
             (λ s. returns.returns_of_object s.references (refer.object_in s.objects o)) }
     {
-        match self.records.object(o, 0) {
+        match self.records.object(o) {
             Some(x) => notice_returns_of(&self.records, &x),
             None => [None, None, None, None],
         }

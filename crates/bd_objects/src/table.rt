@@ -6,15 +6,8 @@ ghost use Rattle.bd_deaths.specs.Room.{death_room};
 
 use crate::room::Room;
 use bd_deaths::DeathTable;
-use bd_records::{Near, Records};
+use bd_records::Records;
 use std::alloc::{AllocError, Global};
-
-/// No guess where records are.
-pub(crate) const ANYWHERE: Near = Near {
-    object: 0,
-    number: 0,
-    process: 0,
-};
 
 // Room is made for so many of each at once, so that most steps find it there.
 const AHEAD: usize = 32;
@@ -94,7 +87,7 @@ impl ObjectTable {
         ensures uses { UsesNothing self.old self.new }
         ensures sure { result ≡ true → names ≤ name_room_of self.new p }
     {
-        if names > AHEAD || self.records.reserve_names(p, AHEAD, 0).is_err() {
+        if names > AHEAD || self.records.reserve_names(p, AHEAD).is_err() {
             return false;
         }
         self.sure_names = AHEAD;
@@ -114,7 +107,7 @@ impl ObjectTable {
         if names == 0 || sure || self.reserve_names_ahead(p, names) {
             return Ok(());
         }
-        self.records.reserve_names(p, names, 0)
+        self.records.reserve_names(p, names)
     }
 
     // Makes this room but for the names.

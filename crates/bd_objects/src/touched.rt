@@ -9,7 +9,7 @@ ghost use Rattle.bd_ways.specs.Local as local;
 ghost use Rattle.bd_objects.specs.{Deaths.{is_lost, only_lost}, Telling.{owner_due}};
 
 use crate::notices::{owner_to_tell, stays};
-use crate::table::{ANYWHERE, ObjectTable};
+use crate::table::ObjectTable;
 use bd_processes::ProcessTable;
 use bd_space::{Identity, WorkKind};
 
@@ -24,7 +24,7 @@ impl ObjectTable {
         ensures uses { UsesNothing self.old self.new }
     {
         if !self.is_named(p, o) {
-            self.records.remove_name(p, o, ANYWHERE);
+            self.records.remove_name(p, o);
         }
     }
 
@@ -37,11 +37,11 @@ impl ObjectTable {
             (λ s. owner_due s (object_in (local.objects_go_of (local.at_object o) s).objects o)) }
         ensures uses { UsesNothing self.old self.new }
     {
-        let x = self.records.object(o, 0)?;
+        let x = self.records.object(o)?;
         let lives = processes.lives(x.owner);
-        let hold = self.records.hold(x.id, 0);
+        let hold = self.records.hold(x.id);
         if !stays(hold, lives, &x) {
-            self.records.remove_object(o, 0);
+            self.records.remove_object(o);
             return None;
         }
         owner_to_tell(hold, lives, &x)
@@ -113,7 +113,7 @@ impl ObjectTable {
         ensures { TellsWhere (StandsFor self.now) (HasProcesses processes.now) result
             (λ s. owner_due s (object_in s.objects o)) }
     {
-        let x = self.records.object(o, 0)?;
-        owner_to_tell(self.records.hold(x.id, 0), processes.lives(x.owner), &x)
+        let x = self.records.object(o)?;
+        owner_to_tell(self.records.hold(x.id), processes.lives(x.owner), &x)
     }
 }

@@ -120,6 +120,15 @@ pub nil_of_references : (vs : List Lying) → map (λ (v : Lying). v.reference) 
 nil_of_references [] e = refl
 nil_of_references (v ∷ vs) e = absurd cc
 
+-- nothing passes, and nothing is left
+pub none_passes : {A : Type 0} (q : A → Bool) (xs : List A) → list_any q xs ≡ false → filter q xs ≡ []
+none_passes q [] e = refl
+none_passes {A} q (x ∷ xs) e = at (q x) (none_passes q xs) e
+  where
+    at : (b : Bool) → (list_any q xs ≡ false → filter q xs ≡ []) → (b || list_any q xs) ≡ false → cond b (x ∷ filter q xs) (filter q xs) ≡ []
+    at true rest f = absurd (cc)
+    at false rest f = rest f
+
 pub not_false : (b : Bool) → (b ≡ false → ⊥) → b ≡ true
 not_false true h = refl
 not_false false h = absurd (h refl)

@@ -13,6 +13,7 @@ mod Disowning
 mod Possessing
 mod Given
 mod Forgetting
+mod Emptied
 mod Ending
 mod Stepping
 mod AskedFor

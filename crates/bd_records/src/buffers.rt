@@ -144,6 +144,7 @@ impl Buffers {
     pub fn pop_in_window(&mut self, p: u64) -> Option<Reference>
         ensures first { Tells (BuffersAre self.old) result (λ l. find (λ r. refer.is_in_window p r.holder) l) }
         ensures stands { Makes (BuffersAre self.old) (BuffersAre self.new) (λ l. without_first (λ r. refer.is_in_window p r.holder) l) }
+        ensures lists { (b : ℕ) → list_of self.new b ≡ list_of self.old b }
         ensures uses { buffer_room self.old ≤ buffer_room self.new }
     {
         let slot = self.windows.chains.first(self.windows.numbers.of(p))?;
@@ -162,6 +163,7 @@ impl Buffers {
         ensures stands { Makes (BuffersAre self.old) (BuffersAre self.new) (λ l. l) }
         ensures gone { (l : List declared.Reference) → BuffersAre self.old l → list_any (λ r. refer.is_of_buffer b r.holder) l ≡ false
             → list_of self.new b ≡ None }
+        ensures fewer { (k : ℕ) → list_of self.old k ≡ None → list_of self.new k ≡ None }
         ensures uses { buffer_room self.old ≤ buffer_room self.new }
     {
         self.lists.give_back(b);
@@ -172,6 +174,7 @@ impl Buffers {
         ensures stands { Makes (BuffersAre self.old) (BuffersAre self.new) (λ l. l) }
         ensures gone { (b : ℕ) (l : List declared.Reference) → refer.buffer_of_holder holder ≡ Some b → BuffersAre self.old l
             → list_any (λ r. refer.is_of_buffer b r.holder) l ≡ false → list_of self.new b ≡ None }
+        ensures fewer { (k : ℕ) → list_of self.old k ≡ None → list_of self.new k ≡ None }
         ensures uses { buffer_room self.old ≤ buffer_room self.new }
     {
         if let Some(berth) = berth_of(holder) {
@@ -184,6 +187,7 @@ impl Buffers {
         ensures stands { Makes (BuffersAre self.old) (BuffersAre self.new) (λ l. l) }
         ensures gone { (l : List declared.Reference) → BuffersAre self.old l → list_any (λ r. refer.is_in_window p r.holder) l ≡ false
             → window_list self.new p ≡ None }
+        ensures lists { (b : ℕ) → list_of self.new b ≡ list_of self.old b }
         ensures uses { buffer_room self.old ≤ buffer_room self.new }
     {
         self.windows.give_back(p);

@@ -14,7 +14,6 @@ ghost use Rattle.bd_records.specs.Sound.{has_object};
 use crate::listed::{give_name, remove_name};
 use crate::numbers::NumbersFull;
 use crate::records::Records;
-use crate::turning::Near;
 use bd_space::{Identity, Name};
 use std::alloc::AllocError;
 
@@ -22,26 +21,20 @@ impl Records {
     ghost use Rattle.bd_records.specs.{Records.{RecordsAre, Makes, reference_room}, NamesAre.{NamesAre}, Names.{name_at}, Since.{Since, Settled, given_room}, Room.{Uses, UsesNothingBut}};
 
     /// Makes room for more names of the process, and changes nothing besides.
-    pub fn reserve_names(&mut self, p: u64, more: usize, near: usize) -> Result<(), AllocError>
+    pub fn reserve_names(&mut self, p: u64, more: usize) -> Result<(), AllocError>
         ensures stands { Makes self.old self.new (λ l. l) }
         ensures names { (base names : List declared.Name) → Since self.old base names → Since self.new base names }
         ensures uses { Uses self.old self.new 0 0 0 }
         ensures room { OnOk result (more ≤ given_room self.new p) }
         ensures grown { OnErr result (more ≤ given_room self.old p → ⊥) }
     {
-        self.names.reserve(p, more, near)?;
+        self.names.reserve(p, more)?;
         self.given.reserve(more)
     }
 
     /// Sees to it that the process has a name for the object, which isn't its own: a new one gets the least free number, from 0 or
     /// from 1, and can be taken back.
-    pub fn give_name(
-        &mut self,
-        from_zero: bool,
-        p: u64,
-        o: Identity,
-        near: Near,
-    ) -> Result<(), NumbersFull>
+    pub fn give_name(&mut self, from_zero: bool, p: u64, o: Identity) -> Result<(), NumbersFull>
         requires { 1 ≤ given_room self.old p }
         ensures stands { OnOk result ((objects : List Object) (l : List Reference) → refer.owned_in objects p o ≡ false
             → RecordsAre self.old objects l → RecordsAre self.new objects l) }
@@ -53,10 +46,10 @@ impl Records {
         ensures room { reference_room self.new ≡ reference_room self.old }
         ensures uses { Uses self.old self.new 0 0 1 }
     {
-        if let Some(_) = self.names.number_near(p, o, near.number, near.process) {
+        if let Some(_) = self.names.number_of(p, o) {
             return Ok(());
         }
-        match give_name(&mut self.names, from_zero, p, o, near.process) {
+        match give_name(&mut self.names, from_zero, p, o) {
             Ok(n) => {
                 self.given.push_reserved(Name {
                     process: p,
@@ -85,7 +78,7 @@ impl Records {
         ensures uses { Uses self.old self.new 0 0 0 }
     {
         while let Some(m) = self.given.pop() {
-            remove_name(&mut self.names, m.process, m.object, m.number, 0);
+            remove_name(&mut self.names, m.process, m.object);
         }
     }
 
@@ -95,13 +88,14 @@ impl Records {
             → RecordsAre self.old objects l → RecordsAre self.new objects l }
         ensures names { (names : List declared.Name) → Settled self.old names → Settled self.new (filter (λ m. not (m.process == p)) names) }
         ensures gone { slot_at self.new.names.rows p ≡ None }
+        ensures held { self.new.held ≡ self.old.held }
         ensures uses { UsesNothingBut p self.old self.new }
     {
-        self.names.remove_process(p, 0);
+        self.names.remove_process(p);
     }
 
     /// The process's name of the object goes, if it has one: the object is its own, or no reference carries the name.
-    pub fn remove_name(&mut self, p: u64, o: Identity, near: Near)
+    pub fn remove_name(&mut self, p: u64, o: Identity)
         ensures stands { (objects : List Object) (l : List Reference) → names_of.is_named_in objects l p o ≡ false
             → RecordsAre self.old objects l → RecordsAre self.new objects l }
         ensures names { tables.Makes (NamesAre self.old.names) (NamesAre self.new.names) (λ l. filter (λ m. not (has_object p o m)) l) }
@@ -109,6 +103,6 @@ impl Records {
         ensures uses { Uses self.old self.new 0 0 0 }
         ensures room { reference_room self.new ≡ reference_room self.old }
     {
-        remove_name(&mut self.names, p, o, near.number, near.process);
+        remove_name(&mut self.names, p, o);
     }
 }

@@ -35,7 +35,7 @@ impl Records {
         ensures { (objects : List Object) (l : List Reference) → RecordsAre self.now objects l → result ≡ refer.own_in objects p ptr }
     {
         let o = self.owned.with_ptr(p, ptr)?;
-        match self.objects.row_near(o, 0) {
+        match self.objects.row_of(o) {
             Some(w) => Some(w.object),
             None => None,
         }
@@ -43,10 +43,10 @@ impl Records {
 
     /// Whether the process owns the object.
     #[inline(always)]
-    pub fn owns(&self, p: u64, o: Identity, near: usize) -> bool
+    pub fn owns(&self, p: u64, o: Identity) -> bool
         ensures { (objects : List Object) (l : List Reference) → RecordsAre self.now objects l → result ≡ refer.owned_in objects p o }
     {
-        match self.objects.row_near(o, near) {
+        match self.objects.row_of(o) {
             Some(w) => w.object.owner == p,
             None => false,
         }
@@ -97,27 +97,27 @@ impl Records {
     }
 
     /// Notes what the object's owner was told last: whether the object is held, and whether strongly.
-    pub fn set_told(&mut self, o: Identity, weak: bool, strong: bool, near: usize)
+    pub fn set_told(&mut self, o: Identity, weak: bool, strong: bool)
         ensures stands { (objects : List Object) (l : List Reference) → RecordsAre self.old objects l → RecordsAre self.new
             (changed (λ x. same x.id o) (λ x. record x { told_weak = weak; told_strong = strong }) objects) l }
         ensures names { self.new.names ≡ self.old.names }
         ensures settled { KeepsSettled self.old self.new }
         ensures uses { Uses self.old self.new 0 0 0 }
     {
-        self.objects.set_told(near, o, weak, strong);
+        self.objects.set_told(o, weak, strong);
     }
 
     /// The object goes, to which nothing refers.
-    pub fn remove_object(&mut self, o: Identity, near: usize)
+    pub fn remove_object(&mut self, o: Identity)
         ensures stands { (objects : List Object) (l : List Reference) → refer.held_in l o ≡ false
             → RecordsAre self.old objects l → RecordsAre self.new (filter (λ x. not (same x.id o)) objects) l }
         ensures names { self.new.names ≡ self.old.names }
         ensures settled { KeepsSettled self.old self.new }
         ensures uses { Uses self.old self.new 0 0 0 }
     {
-        if let Some(w) = self.objects.row_near(o, near) {
+        if let Some(w) = self.objects.row_of(o) {
             self.owned.remove(&w.object);
-            self.objects.remove(o, near);
+            self.objects.remove(o);
         }
     }
 }

@@ -16,11 +16,11 @@ use crate::records::{Records, push_objects};
 use bd_space::Identity;
 use std::alloc::AllocError;
 
-// Whether the process asked for the object. The number that is passed is looked at first.
-fn asks(names: &Names, p: u64, o: Identity, n: u32) -> bool
+// Whether the process asked for the object.
+fn asks(names: &Names, p: u64, o: Identity) -> bool
     ensures { result ≡ asking.asks names.now p o }
 {
-    match names.row_near(p, o, n, 0) {
+    match names.row_of(p, o) {
         Some(w) => !w.asked.is_empty(),
         None => false,
     }
@@ -51,8 +51,8 @@ fn push_asked_at(
     // Memory was asked for: there is one.
     ensures grown { OnErr result (((x : identity.Identity) → asking.asks names.now p x ≡ false) → ⊥) }
 {
-    match names.named(p, n, 0) {
-        Some(o) => push_if(asks(names, p, o, n), touched, o),
+    match names.named(p, n) {
+        Some(o) => push_if(asks(names, p, o), touched, o),
         None => Ok(()),
     }
 }
@@ -63,10 +63,10 @@ fn push_asked(names: &Names, p: u64, touched: &mut Vec<Identity>) -> Result<(), 
         ≡ (is_among touched.old.items x || asking.asks names.now p x)) }
     ensures grown { OnErr result (((x : identity.Identity) → asking.asks names.now p x ≡ false) → ⊥) }
 {
-    let mut next = names.rows.next(p, 0, 0);
+    let mut next = names.rows.next(p, 0);
     while let Some(n) = next {
         push_asked_at(names, p, n, touched)?;
-        next = next_above(&names.rows, p, n, 0);
+        next = next_above(&names.rows, p, n);
     }
     Ok(())
 }

@@ -7,13 +7,13 @@ ghost use Rattle.bd_space.specs.References as refer;
 ghost use Rattle.bd_space.specs.declared.space.{Object.{Object}, Reference.{Reference}};
 ghost use Rattle.bd_space.specs.declared.step.Identity as identity;
 ghost use Rattle.bd_records.specs.declared.row.NameRow as rows;
-ghost use Rattle.bd_records.specs.{Objects.{row_at, object_room}, Counted.{CountsAre}, Records.{is_owner}, Ending.{without_own, is_named_at}};
+ghost use Rattle.bd_records.specs.{Objects.{row_at, object_room}, Counted.{CountsAre}, Records.{is_owner}, Ending.{without_own, is_named_at, LiesIn}};
 
 use crate::keys::next_above;
 use crate::listing::OwnedObjects;
 use crate::objects::Objects;
 use crate::records::Records;
-use crate::turning::{Near, turn};
+use crate::turning::turn;
 
 // The references go that owners have to these objects of theirs.
 fn remove_of_each(objects: &mut Objects, owned: OwnedObjects<'_>)
@@ -25,7 +25,7 @@ fn remove_of_each(objects: &mut Objects, owned: OwnedObjects<'_>)
     ensures uses { object_room objects.old ≤ object_room objects.new }
 {
     for o in owned {
-        objects.remove_of_owner(0, o);
+        objects.remove_of_owner(o);
     }
 }
 
@@ -38,11 +38,12 @@ impl Records {
             (filter (λ r. not (refer.owned_in objects p r.object && refer.is_of_owner r.holder)) l) }
         ensures settled { KeepsSettled self.old self.new }
         ensures uses { Uses self.old self.new 0 0 0 }
+        ensures held { self.new.held ≡ self.old.held }
     {
         remove_of_each(&mut self.objects, self.owned.listed(p));
     }
 
-    // Drops the oldest reference in the process's window, if one lies in it. Its records are found by their keys.
+    // Drops the oldest reference in the process's window, if one lies in it.
     fn pop_in_window(&mut self, p: u64) -> bool
         ensures stands { Makes self.old self.new (λ l. without_first (λ r. refer.is_in_window p r.holder) l) }
         ensures any { Tells self.old result (λ l. list_any (λ r. refer.is_in_window p r.holder) l) }
@@ -53,15 +54,11 @@ impl Records {
             → find (λ x. refer.is_in_window p x.holder) l ≡ Some r → refer.buffer_of_holder r.holder ≡ Some b
             → list_any (λ x. refer.is_of_buffer b x.holder) (without_first (λ x. refer.is_in_window p x.holder) l) ≡ false
             → list_of self.new.held b ≡ None }
+        ensures fewer { (b : ℕ) → list_of self.old.held b ≡ None → list_of self.new.held b ≡ None }
     {
-        let near = Near {
-            object: 0,
-            number: 0,
-            process: 0,
-        };
         match self.held.pop_in_window(p) {
             Some(r) => {
-                turn(&mut self.objects, &mut self.names, r, false, near);
+                turn(&mut self.objects, &mut self.names, r, false);
                 // Its buffer goes with the window, and nobody gives that buffer's list back by itself.
                 self.held.close_of(r.holder);
                 true
@@ -76,6 +73,9 @@ impl Records {
         ensures names { KeepsNames self.old.names self.new.names }
         ensures settled { KeepsSettled self.old self.new }
         ensures uses { Uses self.old self.new 0 0 0 }
+        // The list of each of its buffers has gone.
+        ensures gone { (objects : List Object) (l : List Reference) (b : ℕ) → RecordsAre self.old objects l → LiesIn p b l
+            → list_of self.new.held b ≡ None }
     {
         for _ in 0..self.held.len() {
             if !self.pop_in_window(p) {
@@ -92,16 +92,8 @@ impl Records {
         ensures settled { KeepsSettled self.old self.new }
         ensures uses { Uses self.old self.new 0 0 0 }
     {
-        if let Some(o) = self.names.named(p, n, 0) {
-            self.drop_all_asked(
-                p,
-                o,
-                Near {
-                    object: 0,
-                    number: n,
-                    process: 0,
-                },
-            );
+        if let Some(o) = self.names.named(p, n) {
+            self.drop_all_asked(p, o);
         }
     }
 
@@ -111,10 +103,10 @@ impl Records {
         ensures settled { KeepsSettled self.old self.new }
         ensures uses { Uses self.old self.new 0 0 0 }
     {
-        let mut next = self.names.rows.next(p, 0, 0);
+        let mut next = self.names.rows.next(p, 0);
         while let Some(n) = next {
             self.drop_asked_at(p, n);
-            next = next_above(&self.names.rows, p, n, 0);
+            next = next_above(&self.names.rows, p, n);
         }
     }
 
@@ -125,6 +117,9 @@ impl Records {
         ensures settled { KeepsSettled self.old self.new }
         ensures uses { Uses self.old self.new 0 0 0 }
         ensures gone { (objects : List Object) (l : List Reference) → RecordsAre self.old objects l → window_list self.new.held p ≡ None }
+        // Nor is the list kept of a buffer in its window.
+        ensures buffers { (objects : List Object) (l : List Reference) (b : ℕ) → RecordsAre self.old objects l → LiesIn p b l
+            → list_of self.new.held b ≡ None }
     {
         self.drop_each_asked(p);
         self.remove_each_in_window(p);

@@ -27,7 +27,7 @@ pub(crate) fn reserve_numbers(
 }
 
 /// The next number of the process above this one that names something. Looks at each up to it.
-pub(crate) fn next_above(rows: &Numbered<NameRow>, p: u64, n: u32, near: usize) -> Option<u32>
+pub(crate) fn next_above(rows: &Numbered<NameRow>, p: u64, n: u32) -> Option<u32>
     ensures none { IfNone result ((m : ℕ) → n + 1 ≤ m → m < 2 ^ 32 → value_at rows.now p m ≡ None) }
     ensures from { IfSome result (λ k. n + 1 ≤ k) }
     ensures before { IfSome result (λ k. (m : ℕ) → n + 1 ≤ m → m < k → value_at rows.now p m ≡ None) }
@@ -35,23 +35,17 @@ pub(crate) fn next_above(rows: &Numbered<NameRow>, p: u64, n: u32, near: usize) 
     if n == u32::MAX {
         return None;
     }
-    rows.next(p, n + 1, near)
+    rows.next(p, n + 1)
 }
 
 // What stands under the number is no longer found by its object.
-fn remove_at(
-    rows: &Numbered<NameRow>,
-    numbers: &mut HashMap<ObjectKey, u32>,
-    p: u64,
-    n: u32,
-    near: usize,
-)
+fn remove_at(rows: &Numbered<NameRow>, numbers: &mut HashMap<ObjectKey, u32>, p: u64, n: u32)
     ensures gone { (x : declared.Identity) → object_in rows.now p n ≡ Some x → number_at numbers.new p x ≡ None }
     ensures still { (x : declared.Identity) → number_at numbers.old p x ≡ None → number_at numbers.new p x ≡ None }
     ensures rest { (q : ℕ) (x : declared.Identity) → (p == q) ≡ false → number_at numbers.new q x ≡ number_at numbers.old q x }
     ensures uses { spare numbers.old ≤ spare numbers.new }
 {
-    match rows.get(p, n, near) {
+    match rows.get(p, n) {
         Some(row) => remove_number(numbers, p, row.object),
         None => {}
     }
@@ -62,16 +56,15 @@ pub(crate) fn remove_numbers(
     rows: &Numbered<NameRow>,
     numbers: &mut HashMap<ObjectKey, u32>,
     p: u64,
-    near: usize,
 )
     ensures gone { (m : ℕ) (x : declared.Identity) → m < 2 ^ 32 → object_in rows.now p m ≡ Some x → number_at numbers.new p x ≡ None }
     ensures still { (x : declared.Identity) → number_at numbers.old p x ≡ None → number_at numbers.new p x ≡ None }
     ensures rest { (q : ℕ) (x : declared.Identity) → (p == q) ≡ false → number_at numbers.new q x ≡ number_at numbers.old q x }
     ensures uses { spare numbers.old ≤ spare numbers.new }
 {
-    let mut next = rows.next(p, 0, near);
+    let mut next = rows.next(p, 0);
     while let Some(n) = next {
-        remove_at(rows, numbers, p, n, near);
-        next = next_above(rows, p, n, near);
+        remove_at(rows, numbers, p, n);
+        next = next_above(rows, p, n);
     }
 }

@@ -35,4 +35,3 @@ pub use objects::Objects;
 pub use owned::Owned;
 pub use records::{Hold, Records};
 pub use row::{NameRow, ObjectRow};
-pub use turning::Near;

@@ -24,24 +24,24 @@ pub fn new_names(alloc: Global) -> Names
 }
 
 /// The object that the number names for the process.
-pub fn named_object(names: &Names, p: u64, n: u32, near: usize) -> Option<Identity>
+pub fn named_object(names: &Names, p: u64, n: u32) -> Option<Identity>
     ensures { Tells (NamesAre names.now) result (λ l. names_of.named_in l p n) }
 {
-    names.named(p, n, near)
+    names.named(p, n)
 }
 
-/// By which number the process names the object. The number that is passed is looked at first.
-pub fn name_number(names: &Names, p: u64, o: Identity, n: u32, near: usize) -> Option<u32>
+/// By which number the process names the object.
+pub fn name_number(names: &Names, p: u64, o: Identity) -> Option<u32>
     ensures { Tells (NamesAre names.now) result (λ l. names_of.number_in l p o) }
 {
-    names.number_near(p, o, n, near)
+    names.number_of(p, o)
 }
 
 /// The least number from this one on that names something for the process. Looks at each number up to it.
-pub fn next_number(names: &Names, p: u64, from: u32, near: usize) -> Option<u32>
+pub fn next_number(names: &Names, p: u64, from: u32) -> Option<u32>
     ensures { (l : List declared.Name) → NamesAre names.now l → IsNextNumber l p from result }
 {
-    names.next_number(p, from, near)
+    names.next_number(p, from)
 }
 
 /// A name for an object that the process has none for: with the least free number, from 0 or from 1, which it answers.
@@ -50,7 +50,6 @@ pub fn give_name(
     from_zero: bool,
     p: u64,
     o: Identity,
-    near: usize,
 ) -> Result<u32, NumbersFull>
     requires room { 1 ≤ name_room names.old p }
     requires lacks { number_of names.old p o ≡ None }
@@ -62,15 +61,15 @@ pub fn give_name(
     ensures full { OnErr result ((l : List declared.Name) → NamesAre names.old l → IsFull from_zero p l o) }
     ensures uses { (q : ℕ) → name_room names.old q ≤ name_room names.new q + 1 }
 {
-    names.give(from_zero, p, o, near)
+    names.give(from_zero, p, o)
 }
 
 /// The process's name of the object goes, if it has one.
-pub fn remove_name(names: &mut Names, p: u64, o: Identity, n: u32, near: usize)
+pub fn remove_name(names: &mut Names, p: u64, o: Identity)
     ensures stands { Makes (NamesAre names.old) (NamesAre names.new) (λ l. filter (λ m. not (has_object p o m)) l) }
     ensures rows { (q : ℕ) (x : object.Identity) → name_at names.new q x
         ≡ (if (p == q) && same o x then None else name_at names.old q x) }
     ensures uses { (q : ℕ) → name_room names.old q ≤ name_room names.new q }
 {
-    names.remove(p, o, n, near);
+    names.remove(p, o);
 }

@@ -35,10 +35,10 @@ impl Records {
 
     /// The object with this identity, if it is still there.
     #[inline(always)]
-    pub fn object(&self, o: Identity, near: usize) -> Option<space::Object>
+    pub fn object(&self, o: Identity) -> Option<space::Object>
         ensures { (objects : List Object) (l : List Reference) → RecordsAre self.now objects l → result ≡ refer.object_in objects o }
     {
-        match self.objects.row_near(o, near) {
+        match self.objects.row_of(o) {
             Some(w) => Some(w.object),
             None => None,
         }
@@ -46,11 +46,11 @@ impl Records {
 
     /// The object of this identity, if the process owns it.
     #[inline(always)]
-    pub fn own_object(&self, p: u64, o: Identity, near: usize) -> Option<space::Object>
+    pub fn own_object(&self, p: u64, o: Identity) -> Option<space::Object>
         ensures { (objects : List Object) (l : List Reference) → RecordsAre self.now objects l
             → result ≡ find (λ x. same x.id o && (x.owner == p)) objects }
     {
-        own_of(self.objects.row_near(o, near), p)
+        own_of(self.objects.row_of(o), p)
     }
 
     /// As `own_with_ptr`, where the object has this cookie, too.

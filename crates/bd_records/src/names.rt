@@ -10,7 +10,7 @@ ghost use Rattle.bd_records.specs.Counting as spec;
 use crate::count::Count;
 use crate::counting::name_turned;
 use crate::keys::{remove_numbers, reserve_numbers};
-use crate::number_key::{ObjectKey, insert_number, number_of, remove_number};
+use crate::number_key::{ObjectKey, insert_number, number_in, remove_number};
 use crate::numbers::NumbersFull;
 use crate::row::NameRow;
 use bd_numbered::{Guesses, Numbered};
@@ -24,6 +24,15 @@ fn key_of(p: u64, o: Identity) -> u64 {
     p.wrapping_mul(31)
         .wrapping_add(o.place)
         .wrapping_add(o.index as u64)
+}
+
+// It has this number: what is guessed wrongly, since other keys share the guess, is guessed rightly from now on.
+#[inline(always)]
+fn note_again(guesses: &mut Guesses, p: u64, o: Identity, n: u32) {
+    let key = key_of(p, o);
+    if guesses.of(key) != n {
+        guesses.note(key, n as usize);
+    }
 }
 
 /// The names of all processes.
@@ -52,12 +61,12 @@ impl Names {
         Names {
             rows: Numbered::new(alloc),
             numbers: HashMap::new(alloc),
-            guesses: Guesses::new(),
+            guesses: Guesses::new(alloc),
         }
     }
 
     /// Makes room for more names of the process, and changes nothing besides, whatever it answers.
-    pub fn reserve(&mut self, p: u64, more: usize, near: usize) -> Result<(), AllocError>
+    pub fn reserve(&mut self, p: u64, more: usize) -> Result<(), AllocError>
         ensures named { (q n : ℕ) → named_by self.new q n ≡ named_by self.old q n }
         ensures numbers { (q : ℕ) (o : declared.Identity) → number_of self.new q o ≡ number_of self.old q o }
         ensures names { (q : ℕ) (o : declared.Identity) → name_at self.new q o ≡ name_at self.old q o }
@@ -66,97 +75,109 @@ impl Names {
         // Memory was asked for: there was no room.
         ensures grown { OnErr result (more ≤ name_room self.old p → ⊥) }
     {
-        self.rows.reserve(p, more, near)?;
-        reserve_numbers(&mut self.numbers, more)
+        self.rows.reserve(p, more)?;
+        reserve_numbers(&mut self.numbers, more)?;
+        self.guesses.reserve(self.numbers.capacity());
+        Ok(())
     }
 
     /// What the number names for the process.
     #[inline(always)]
-    pub fn named(&self, p: u64, n: u32, near: usize) -> Option<Identity>
+    pub fn named(&self, p: u64, n: u32) -> Option<Identity>
         ensures { result ≡ named_by self.now p n }
     {
-        match self.rows.look(p, n, near) {
+        match self.rows.look(p, n) {
             Some(row) => Some(row.object),
             None => None,
         }
     }
 
-    /// By which number the process names the object. Looks under `n` first, whatever that is.
+    /// By which number the process names the object.
     #[inline(always)]
-    pub fn number_near(&self, p: u64, o: Identity, n: u32, near: usize) -> Option<u32>
+    pub fn number_of(&self, p: u64, o: Identity) -> Option<u32>
         ensures { result ≡ number_of self.now p o }
     {
-        if self.named(p, n, near) == Some(o) {
-            return Some(n);
-        }
         let guess = self.guesses.of(key_of(p, o));
-        if self.named(p, guess, near) == Some(o) {
+        if self.named(p, guess) == Some(o) {
             return Some(guess);
         }
-        number_of(&self.numbers, p, o)
+        self.number_among(p, o)
+    }
+
+    // The same, of many names.
+    #[inline(never)]
+    fn number_among(&self, p: u64, o: Identity) -> Option<u32>
+        ensures { result ≡ number_of self.now p o }
+    {
+        let other = self.guesses.among(key_of(p, o));
+        if self.named(p, other) == Some(o) {
+            return Some(other);
+        }
+        number_in(&self.numbers, p, o)
     }
 
     /// The least number from this one on that names something for the process. Looks at each number up to it.
-    pub fn next_number(&self, p: u64, from: u32, near: usize) -> Option<u32>
+    pub fn next_number(&self, p: u64, from: u32) -> Option<u32>
         ensures none { IfNone result ((m : ℕ) → from ≤ m → m < 2 ^ 32 → named_by self.now p m ≡ None) }
         ensures from { IfSome result (λ n. from ≤ n) }
         ensures there { IfSome result (λ n. is_some (named_by self.now p n) ≡ true) }
         ensures before { IfSome result (λ n. (m : ℕ) → from ≤ m → m < n → named_by self.now p m ≡ None) }
     {
-        self.rows.next(p, from, near)
+        self.rows.next(p, from)
     }
 
     /// The record of the process's name of the object.
     #[inline(always)]
-    pub fn row_near(&self, p: u64, o: Identity, n: u32, near: usize) -> Option<NameRow>
+    pub fn row_of(&self, p: u64, o: Identity) -> Option<NameRow>
         ensures is { result ≡ name_at self.now p o }
         ensures object { IfSome result (λ w. w.object ≡ o) }
     {
-        let n = self.number_near(p, o, n, near)?;
-        self.rows.get(p, n, near)
+        let n = self.number_of(p, o)?;
+        self.rows.get(p, n)
     }
 
     /// Puts this record in place of the one that the process's name of the same object has.
     #[inline(always)]
-    pub fn set(&mut self, p: u64, n: u32, near: usize, row: NameRow)
+    pub fn set(&mut self, p: u64, row: NameRow)
         ensures named { (q m : ℕ) → named_by self.new q m ≡ named_by self.old q m }
         ensures numbers { (q : ℕ) (o : declared.Identity) → number_of self.new q o ≡ number_of self.old q o }
         ensures set { (q : ℕ) (o : declared.Identity) → name_at self.new q o
             ≡ (if (p == q) && same row.object o then option_map (λ _. row) (name_at self.old q o) else name_at self.old q o) }
         ensures uses { (q : ℕ) → name_room self.old q ≤ name_room self.new q }
     {
-        if let Some(k) = self.number_near(p, row.object, n, near) {
-            self.rows.set(p, k, row, near);
+        if let Some(k) = self.number_of(p, row.object) {
+            self.rows.set(p, k, row);
         }
     }
 
     /// Counts the reference, or no longer, in the record of the process's name of its object.
     #[inline(always)]
-    pub fn turn(&mut self, p: u64, n: u32, near: usize, r: Reference, more: bool)
+    pub fn turn(&mut self, p: u64, r: Reference, more: bool)
         ensures turned { (q : ℕ) (o : declared.Identity) → name_at self.new q o
             ≡ (if (p == q) && same r.object o then option_map (spec.name_turned more r) (name_at self.old q o) else name_at self.old q o) }
         ensures named { (q m : ℕ) → named_by self.new q m ≡ named_by self.old q m }
         ensures numbers { (q : ℕ) (o : declared.Identity) → number_of self.new q o ≡ number_of self.old q o }
         ensures uses { (q : ℕ) → name_room self.old q ≤ name_room self.new q }
     {
-        if let Some(k) = self.number_near(p, r.object, n, near) {
-            match self.rows.get(p, k, near) {
-                Some(w) => self.rows.set(p, k, name_turned(more, w, r), near),
+        if let Some(k) = self.number_of(p, r.object) {
+            note_again(&mut self.guesses, p, r.object, k);
+            match self.rows.get(p, k) {
+                Some(w) => self.rows.set(p, k, name_turned(more, w, r)),
                 None => unreachable!(),
             }
         }
     }
 
     /// The record of the process's name of that object counts nothing any more that the process asked for, if there is one.
-    pub fn clear_asked(&mut self, p: u64, o: Identity, n: u32, near: usize)
+    pub fn clear_asked(&mut self, p: u64, o: Identity)
         ensures cleared { (q : ℕ) (x : declared.Identity) → name_at self.new q x
             ≡ (if (p == q) && same o x then option_map spec.unasked (name_at self.old q x) else name_at self.old q x) }
         ensures named { (q m : ℕ) → named_by self.new q m ≡ named_by self.old q m }
         ensures numbers { (q : ℕ) (x : declared.Identity) → number_of self.new q x ≡ number_of self.old q x }
         ensures uses { (q : ℕ) → name_room self.old q ≤ name_room self.new q }
     {
-        if let Some(k) = self.number_near(p, o, n, near) {
-            match self.rows.get(p, k, near) {
+        if let Some(k) = self.number_of(p, o) {
+            match self.rows.get(p, k) {
                 Some(w) => self.rows.set(
                     p,
                     k,
@@ -164,7 +185,6 @@ impl Names {
                         asked: Count::none(),
                         ..w
                     },
-                    near,
                 ),
                 None => unreachable!(),
             }
@@ -172,13 +192,7 @@ impl Names {
     }
 
     /// A name for an object that the process has none for: with the least free number, from 0 or from 1, which it answers.
-    pub fn give(
-        &mut self,
-        from_zero: bool,
-        p: u64,
-        o: Identity,
-        near: usize,
-    ) -> Result<u32, NumbersFull>
+    pub fn give(&mut self, from_zero: bool, p: u64, o: Identity) -> Result<u32, NumbersFull>
         requires room { 1 ≤ name_room self.old p }
         requires lacks { number_of self.old p o ≡ None }
         ensures err { OnErr result (self.new ≡ self.old) }
@@ -194,7 +208,7 @@ impl Names {
             → name_at self.new q x ≡ (if (p == q) && same o x then Some (new_row o) else name_at self.old q x)) }
         ensures uses { (q : ℕ) → name_room self.old q ≤ name_room self.new q + 1 }
     {
-        let Some(n) = self.rows.free_number(p, from_zero, near) else {
+        let Some(n) = self.rows.free_number(p, from_zero) else {
             return Err(NumbersFull);
         };
         let row = NameRow {
@@ -202,14 +216,14 @@ impl Names {
             asked: Count::none(),
             carried: Count::none(),
         };
-        let _n = self.rows.put(p, n == 0, row, near);
+        let _n = self.rows.put(p, n == 0, row);
         insert_number(&mut self.numbers, p, o, n);
         self.guesses.note(key_of(p, o), n as usize);
         Ok(n)
     }
 
     /// Takes out the process's name of the object, if there is one.
-    pub fn remove(&mut self, p: u64, o: Identity, n: u32, near: usize)
+    pub fn remove(&mut self, p: u64, o: Identity)
         ensures named { (q m : ℕ) → named_by self.new q m
             ≡ (if (p == q) && is_at m (number_of self.old p o) then None else named_by self.old q m) }
         ensures numbers { (q : ℕ) (x : declared.Identity) → number_of self.new q x
@@ -218,13 +232,13 @@ impl Names {
             ≡ (if (p == q) && same o x then None else name_at self.old q x) }
         ensures uses { (q : ℕ) → name_room self.old q ≤ name_room self.new q }
     {
-        if let Some(k) = self.number_near(p, o, n, near) {
-            let _row = self.rows.remove(p, k, near);
+        if let Some(k) = self.number_of(p, o) {
+            let _row = self.rows.remove(p, k);
             remove_number(&mut self.numbers, p, o);
         }
     }
     /// All names of the process go, and its row with them.
-    pub fn remove_process(&mut self, p: u64, near: usize)
+    pub fn remove_process(&mut self, p: u64)
         ensures named { (q m : ℕ) → named_by self.new q m ≡ (if p == q then None else named_by self.old q m) }
         ensures numbers { (q : ℕ) (x : declared.Identity) → number_of self.new q x
             ≡ (if p == q then None else number_of self.old q x) }
@@ -233,7 +247,7 @@ impl Names {
         ensures row { slot_at self.new.rows p ≡ None }
         ensures uses { (q : ℕ) → (p == q) ≡ false → name_room self.old q ≤ name_room self.new q }
     {
-        remove_numbers(&self.rows, &mut self.numbers, p, near);
-        self.rows.close(p, near);
+        remove_numbers(&self.rows, &mut self.numbers, p);
+        self.rows.close(p);
     }
 }

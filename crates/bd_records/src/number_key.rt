@@ -33,7 +33,9 @@ impl Hash for ObjectKey {
 }
 
 /// The number by which the process names the object, if it does.
-pub(crate) fn number_of(numbers: &HashMap<ObjectKey, u32>, p: u64, o: Identity) -> Option<u32>
+// Called apart, so that who guesses right saves nothing for it.
+#[inline(never)]
+pub(crate) fn number_in(numbers: &HashMap<ObjectKey, u32>, p: u64, o: Identity) -> Option<u32>
     ensures { result ≡ number_at numbers.now p o }
 {
     numbers

@@ -11,7 +11,7 @@ use crate::count::Count;
 use crate::row::ObjectRow;
 use crate::slots::{
     id_at, insert_row, insert_slot, remove_of_owner_in, remove_row, remove_slot, reserve_rows,
-    reserve_slots, row_in, set_row, slot_of, subtract_row, tell_row, turn_row,
+    reserve_slots, row_in, set_row, slot_in, subtract_row, tell_row, turn_row,
 };
 use bd_numbered::Guesses;
 use bd_space::{Identity, Reference};
@@ -25,11 +25,20 @@ fn key_of(o: Identity) -> u64 {
     o.place.wrapping_add(o.index as u64)
 }
 
+// It stands there: what is guessed wrongly, since other keys share the guess, is guessed rightly from now on.
+#[inline(always)]
+fn note_again(guesses: &mut Guesses, o: Identity, k: usize) {
+    let key = key_of(o);
+    if guesses.of(key) as usize != k {
+        guesses.note(key, k);
+    }
+}
+
 /// The records of all objects.
 #[derive(Drop)]
 pub struct Objects {
     pub(crate) rows: Slab<ObjectRow>,
-    // Slots by identity, asked where all guesses were wrong.
+    // Slots by identity, asked where a guess is wrong.
     pub(crate) slots: HashMap<Identity, usize>,
     pub(crate) guesses: Guesses,
     ghost found: { (o : declared.Identity) (k : ℕ) → id_in rows k ≡ Some o → get_by (same o) slots ≡ Some k },
@@ -46,7 +55,7 @@ impl Objects {
         Objects {
             rows: Slab::new(alloc),
             slots: HashMap::new(alloc),
-            guesses: Guesses::new(),
+            guesses: Guesses::new(alloc),
         }
     }
 
@@ -59,86 +68,98 @@ impl Objects {
         ensures grown { OnErr result (more ≤ object_room self.old → ⊥) }
     {
         reserve_rows(&mut self.rows, more)?;
-        reserve_slots(&mut self.slots, more)
+        reserve_slots(&mut self.slots, more)?;
+        self.guesses.reserve(self.rows.capacity());
+        Ok(())
     }
 
-    /// In which slot the object's record is. Looks into the slot `near` first, whatever that is.
+    /// In which slot the object's record is.
     #[inline(always)]
-    pub fn slot_near(&self, o: Identity, near: usize) -> Option<usize>
+    pub fn slot_of(&self, o: Identity) -> Option<usize>
         ensures { result ≡ slot_at self.now o }
     {
-        if id_at(&self.rows, near) == Some(o) {
-            return Some(near);
-        }
         let guess = self.guesses.of(key_of(o)) as usize;
         if id_at(&self.rows, guess) == Some(o) {
             return Some(guess);
         }
-        slot_of(&self.slots, o)
+        self.slot_among(o)
+    }
+
+    // The same, of many objects.
+    #[inline(never)]
+    fn slot_among(&self, o: Identity) -> Option<usize>
+        ensures { result ≡ slot_at self.now o }
+    {
+        let other = self.guesses.among(key_of(o)) as usize;
+        if id_at(&self.rows, other) == Some(o) {
+            return Some(other);
+        }
+        slot_in(&self.slots, o)
     }
 
     /// The object's record.
     #[inline(always)]
-    pub fn row_near(&self, o: Identity, near: usize) -> Option<ObjectRow>
+    pub fn row_of(&self, o: Identity) -> Option<ObjectRow>
         ensures is { result ≡ row_at self.now o }
         ensures id { IfSome result (λ w. w.object.id ≡ o) }
     {
-        let k = self.slot_near(o, near)?;
+        let k = self.slot_of(o)?;
         row_in(&self.rows, k)
     }
 
     /// Writes the object's record, if it has one.
-    pub fn set(&mut self, near: usize, row: ObjectRow)
+    pub fn set(&mut self, row: ObjectRow)
         ensures set { (x : declared.Identity) → row_at self.new x
             ≡ (if same row.object.id x then option_map (λ _. row) (row_at self.old x) else row_at self.old x) }
         ensures uses { object_room self.old ≤ object_room self.new }
     {
-        if let Some(k) = self.slot_near(row.object.id, near) {
+        if let Some(k) = self.slot_of(row.object.id) {
             set_row(&mut self.rows, k, row);
         }
     }
 
     /// Counts the reference, or no longer, in the record of its object.
     #[inline(always)]
-    pub fn turn(&mut self, near: usize, r: Reference, more: bool)
+    pub fn turn(&mut self, r: Reference, more: bool)
         ensures turned { (x : declared.Identity) → row_at self.new x
             ≡ (if same r.object x then option_map (spec.turned more r) (row_at self.old x) else row_at self.old x) }
         ensures uses { object_room self.old ≤ object_room self.new }
     {
-        if let Some(k) = self.slot_near(r.object, near) {
+        if let Some(k) = self.slot_of(r.object) {
+            note_again(&mut self.guesses, r.object, k);
             turn_row(&mut self.rows, k, r, more);
         }
     }
 
     /// The object's owner was told whether the object is held, and whether strongly.
-    pub fn set_told(&mut self, near: usize, o: Identity, weak: bool, strong: bool)
+    pub fn set_told(&mut self, o: Identity, weak: bool, strong: bool)
         ensures told { (x : declared.Identity) → row_at self.new x
             ≡ (if same o x then option_map (spec.told weak strong) (row_at self.old x) else row_at self.old x) }
         ensures uses { object_room self.old ≤ object_room self.new }
     {
-        if let Some(k) = self.slot_near(o, near) {
+        if let Some(k) = self.slot_of(o) {
             tell_row(&mut self.rows, k, weak, strong);
         }
     }
 
     /// The object's record counts so many fewer.
-    pub fn subtract(&mut self, near: usize, o: Identity, fewer: Count)
+    pub fn subtract(&mut self, o: Identity, fewer: Count)
         ensures lowered { (x : declared.Identity) → row_at self.new x
             ≡ (if same o x then option_map (spec.lowered fewer) (row_at self.old x) else row_at self.old x) }
         ensures uses { object_room self.old ≤ object_room self.new }
     {
-        if let Some(k) = self.slot_near(o, near) {
+        if let Some(k) = self.slot_of(o) {
             subtract_row(&mut self.rows, k, fewer);
         }
     }
 
     /// The object's record counts none any more that the owner has to its own object.
-    pub fn remove_of_owner(&mut self, near: usize, o: Identity)
+    pub fn remove_of_owner(&mut self, o: Identity)
         ensures disowned { (x : declared.Identity) → row_at self.new x
             ≡ (if same o x then option_map spec.disowned (row_at self.old x) else row_at self.old x) }
         ensures uses { object_room self.old ≤ object_room self.new }
     {
-        if let Some(k) = self.slot_near(o, near) {
+        if let Some(k) = self.slot_of(o) {
             remove_of_owner_in(&mut self.rows, k);
         }
     }
@@ -159,11 +180,11 @@ impl Objects {
     }
 
     /// The object's record goes, if it has one.
-    pub fn remove(&mut self, o: Identity, near: usize)
+    pub fn remove(&mut self, o: Identity)
         ensures at { (x : declared.Identity) → row_at self.new x ≡ (if same o x then None else row_at self.old x) }
         ensures uses { object_room self.old ≤ object_room self.new }
     {
-        if let Some(k) = self.slot_near(o, near) {
+        if let Some(k) = self.slot_of(o) {
             remove_row(&mut self.rows, k);
             remove_slot(&mut self.slots, o);
         }

@@ -1,6 +1,6 @@
 //! Objects, names and references together.
 
-ghost use Rattle.std.specs.Prelude.{ℕ, ◌≡◌, ◌==◌, ◌≤◌, ◌+◌, ◌&&◌, ◌++◌, ◌∷◌, [], false, not, filter, map, List, OnOk, OnErr};
+ghost use Rattle.std.specs.Prelude.{ℕ, ◌≡◌, ◌==◌, ◌≤◌, ◌+◌, ◌&&◌, ◌++◌, ◌∷◌, [], true, false, not, filter, map, List, OnOk, OnErr};
 ghost use Rattle.std.specs.List.{list_any};
 ghost use Rattle.bd_space.specs.{Words.{same, without_first}};
 ghost use Rattle.bd_space.specs.References as refer;
@@ -11,7 +11,7 @@ use crate::lying::Lying;
 use crate::names::Names;
 use crate::objects::Objects;
 use crate::owned::Owned;
-use crate::turning::{Near, turn};
+use crate::turning::turn;
 use bd_chains::Items;
 use bd_space::{Holder, Identity, Name, Origin, Reference};
 use std::alloc::{AllocError, Global};
@@ -89,11 +89,11 @@ impl Records {
 
     /// How the object is referred to.
     #[inline(always)]
-    pub fn hold(&self, o: Identity, near: usize) -> Hold
+    pub fn hold(&self, o: Identity) -> Hold
         ensures held { Tells self.now result.is_held (λ l. refer.held_in l o) }
         ensures strong { Tells self.now result.is_strong (λ l. refer.strong_in l o) }
     {
-        match self.objects.row_near(o, near) {
+        match self.objects.row_of(o) {
             Some(w) => Hold {
                 is_held: !w.total.is_empty(),
                 is_strong: w.total.strong > 0,
@@ -107,10 +107,10 @@ impl Records {
 
     /// Whether the process asked for the object in this strength.
     #[inline(always)]
-    pub fn is_asked(&self, p: u64, o: Identity, strong: bool, near: Near) -> bool
+    pub fn is_asked(&self, p: u64, o: Identity, strong: bool) -> bool
         ensures { Tells self.now result (λ l. list_any (refer.is_asking p o strong) l) }
     {
-        match self.names.row_near(p, o, near.number, near.process) {
+        match self.names.row_of(p, o) {
             Some(w) => w.asked.of(strong) > 0,
             None => false,
         }
@@ -118,10 +118,10 @@ impl Records {
 
     /// Whether an acknowledgement of this strength is outstanding.
     #[inline(always)]
-    pub fn is_shaken(&self, o: Identity, strong: bool, near: usize) -> bool
+    pub fn is_shaken(&self, o: Identity, strong: bool) -> bool
         ensures { Tells self.now result (λ l. list_any (refer.is_shaking o strong) l) }
     {
-        match self.objects.row_near(o, near) {
+        match self.objects.row_of(o) {
             Some(w) => w.owed.of(strong) > 0,
             None => false,
         }
@@ -130,11 +130,11 @@ impl Records {
     /// Whether a reference gives the process its name of the object: it asked, or a buffer in its window carries it. Of an
     /// object that isn't its own.
     #[inline(always)]
-    pub fn refers(&self, p: u64, o: Identity, near: Near) -> bool
+    pub fn refers(&self, p: u64, o: Identity) -> bool
         ensures { TellsOfOthers self.now p o result
             (λ l. list_any (λ r. same r.object o && refer.gives_name_to p r.holder) l) }
     {
-        match self.names.row_near(p, o, near.number, near.process) {
+        match self.names.row_of(p, o) {
             Some(w) => !w.asked.is_empty() || !w.carried.is_empty(),
             None => false,
         }
@@ -142,18 +142,18 @@ impl Records {
 
     /// The same, strongly.
     #[inline(always)]
-    pub fn refers_strongly(&self, p: u64, o: Identity, near: Near) -> bool
+    pub fn refers_strongly(&self, p: u64, o: Identity) -> bool
         ensures { TellsOfOthers self.now p o result
             (λ l. list_any (λ r. r.strong && same r.object o && refer.gives_name_to p r.holder) l) }
     {
-        match self.names.row_near(p, o, near.number, near.process) {
+        match self.names.row_of(p, o) {
             Some(w) => w.asked.strong > 0 || w.carried.strong > 0,
             None => false,
         }
     }
 
     /// Takes in a reference, of which there is a record for each counter (`IsHomed`).
-    pub fn push(&mut self, r: Reference, near: Near)
+    pub fn push(&mut self, r: Reference)
         requires { 1 ≤ reference_room self.old }
         ensures stands { (objects : List Object) (l : List Reference) → IsHomed self.old objects r
             → RecordsAre self.old objects l → RecordsAre self.new objects (l ++ r ∷ []) }
@@ -161,80 +161,83 @@ impl Records {
         ensures settled { KeepsSettled self.old self.new }
         ensures uses { Uses self.old self.new 0 1 0 }
     {
-        turn(&mut self.objects, &mut self.names, r, true, near);
+        turn(&mut self.objects, &mut self.names, r, true);
         self.held.push(r);
         self.made = self.made.saturating_add(1);
     }
 
     /// Drops the oldest reference of this strength that the process asked for, if there is one.
-    pub fn drop_asked(&mut self, p: u64, o: Identity, strong: bool, near: Near)
+    pub fn drop_asked(&mut self, p: u64, o: Identity, strong: bool)
         ensures stands { Makes self.old self.new (λ l. without_first (refer.is_asking p o strong) l) }
         ensures names { KeepsNames self.old.names self.new.names }
         ensures settled { KeepsSettled self.old self.new }
         ensures uses { Uses self.old self.new 0 0 0 }
     {
-        if self.is_asked(p, o, strong, near) {
+        if self.is_asked(p, o, strong) {
             let r = Reference {
                 id: Origin { place: 0, index: 0 },
                 object: o,
                 strong,
                 holder: Holder::Asked(p),
             };
-            turn(&mut self.objects, &mut self.names, r, false, near);
+            turn(&mut self.objects, &mut self.names, r, false);
         }
     }
 
     /// Drops the oldest reference of this strength that stands for an acknowledgement, if there is one.
-    pub fn drop_shaken(&mut self, o: Identity, strong: bool, near: Near)
+    pub fn drop_shaken(&mut self, o: Identity, strong: bool)
         ensures stands { Makes self.old self.new (λ l. without_first (refer.is_shaking o strong) l) }
         ensures names { KeepsNames self.old.names self.new.names }
         ensures settled { KeepsSettled self.old self.new }
         ensures uses { Uses self.old self.new 0 0 0 }
     {
-        if self.is_shaken(o, strong, near.object) {
+        if self.is_shaken(o, strong) {
             let r = Reference {
                 id: Origin { place: 0, index: 0 },
                 object: o,
                 strong,
                 holder: Holder::Handshake,
             };
-            turn(&mut self.objects, &mut self.names, r, false, near);
+            turn(&mut self.objects, &mut self.names, r, false);
         }
     }
 
     /// The references go that the owner has to its own object: what it is to acknowledge, and the context manager's.
-    pub fn remove_of_owner(&mut self, o: Identity, near: usize)
+    pub fn remove_of_owner(&mut self, o: Identity)
         ensures stands { Makes self.old self.new (λ l. filter (λ r. not (same r.object o && refer.is_of_owner r.holder)) l) }
         ensures names { KeepsNames self.old.names self.new.names }
         ensures settled { KeepsSettled self.old self.new }
         ensures uses { Uses self.old self.new 0 0 0 }
     {
-        self.objects.remove_of_owner(near, o);
+        self.objects.remove_of_owner(o);
     }
 
     /// Drops all references to the object that the process asked for.
-    pub fn drop_all_asked(&mut self, p: u64, o: Identity, near: Near)
+    pub fn drop_all_asked(&mut self, p: u64, o: Identity)
         ensures stands { Makes self.old self.new (λ l. filter (λ r. not (same r.object o && refer.is_asked_by p r.holder)) l) }
         ensures named { (q m : ℕ) → named_by self.new.names q m ≡ named_by self.old.names q m }
         ensures names { KeepsNames self.old.names self.new.names }
         ensures settled { KeepsSettled self.old self.new }
         ensures uses { Uses self.old self.new 0 0 0 }
     {
-        if let Some(w) = self.names.row_near(p, o, near.number, near.process) {
-            self.objects.subtract(near.object, o, w.asked);
-            self.names.clear_asked(p, o, near.number, near.process);
+        if let Some(w) = self.names.row_of(p, o) {
+            self.objects.subtract(o, w.asked);
+            self.names.clear_asked(p, o);
         }
     }
 
     /// The objects to which the buffer refers, put after what is there. Fails for want of memory alone.
     pub fn referred(&self, b: u64, touched: &mut Vec<Identity>) -> Result<(), AllocError>
-        ensures { OnOk result (Tells self.now touched.new.items (λ l. touched.old.items ++ map (λ r. r.object) (filter
+        ensures pushed { OnOk result (Tells self.now touched.new.items (λ l. touched.old.items ++ map (λ r. r.object) (filter
             (λ r. refer.is_of_buffer b r.holder) l))) }
+        // Memory was asked for: it refers to one.
+        ensures grown { OnErr result ((objects : List Object) (l : List Reference) → RecordsAre self.now objects l
+            → list_any (λ r. refer.is_of_buffer b r.holder) l ≡ true) }
     {
         push_objects(self.held.of(b), touched)
     }
 
-    // Drops the oldest reference in the buffer, if one lies in it. Its records are found by their keys.
+    // Drops the oldest reference in the buffer, if one lies in it.
     fn pop_held(&mut self, b: u64) -> bool
         ensures stands { Makes self.old self.new (λ l. without_first (λ r. refer.is_of_buffer b r.holder) l) }
         ensures any { Tells self.old result (λ l. list_any (λ r. refer.is_of_buffer b r.holder) l) }
@@ -242,14 +245,9 @@ impl Records {
         ensures settled { KeepsSettled self.old self.new }
         ensures uses { Uses self.old self.new 0 0 0 }
     {
-        let near = Near {
-            object: 0,
-            number: 0,
-            process: 0,
-        };
         match self.held.pop(b) {
             Some(r) => {
-                turn(&mut self.objects, &mut self.names, r, false, near);
+                turn(&mut self.objects, &mut self.names, r, false);
                 true
             }
             None => false,

@@ -124,7 +124,9 @@ pub(crate) fn remove_row(rows: &mut Slab<ObjectRow>, k: usize)
     let _row = rows.try_remove(k);
 }
 
-pub(crate) fn slot_of(slots: &HashMap<Identity, usize>, o: Identity) -> Option<usize>
+// Called apart, so that who guesses right saves nothing for it.
+#[inline(never)]
+pub(crate) fn slot_in(slots: &HashMap<Identity, usize>, o: Identity) -> Option<usize>
     ensures { result ≡ get_by (same o) slots.now }
 {
     slots.get(&o).copied()

@@ -11,15 +11,6 @@ use crate::names::Names;
 use crate::objects::Objects;
 use bd_space::{Holder, Reference};
 
-/// Guesses where the records stand that count a reference: the object's slot, the name's number, its process's slot. The
-/// same records are found, whatever these are.
-#[derive(Clone, Copy)]
-pub struct Near {
-    pub object: usize,
-    pub number: u32,
-    pub process: usize,
-}
-
 /// Which process has a name for its sake.
 #[inline(always)]
 pub(crate) fn user_of(holder: Holder) -> Option<u64>
@@ -33,29 +24,29 @@ pub(crate) fn user_of(holder: Holder) -> Option<u64>
 
 // The object's record counts one more, or one fewer.
 #[inline(always)]
-fn turn_object(objects: &mut Objects, r: Reference, more: bool, near: usize)
+fn turn_object(objects: &mut Objects, r: Reference, more: bool)
     ensures turned { (x : declared.Identity) → row_at objects.new x
         ≡ (if same r.object x then option_map (spec.turned more r) (row_at objects.old x) else row_at objects.old x) }
     ensures uses { object_room objects.old ≤ object_room objects.new }
 {
-    objects.turn(near, r, more);
+    objects.turn(r, more);
 }
 
 // The record of the process's name counts one more, or one fewer.
 #[inline(always)]
-fn turn_name(names: &mut Names, p: u64, r: Reference, more: bool, n: u32, near: usize)
+fn turn_name(names: &mut Names, p: u64, r: Reference, more: bool)
     ensures turned { (q : ℕ) (x : declared.Identity) → name_at names.new q x
         ≡ (if (p == q) && same r.object x then option_map (spec.name_turned more r) (name_at names.old q x) else name_at names.old q x) }
     ensures named { (q m : ℕ) → named_by names.new q m ≡ named_by names.old q m }
     ensures numbers { (q : ℕ) (x : declared.Identity) → number_of names.new q x ≡ number_of names.old q x }
     ensures uses { (q : ℕ) → name_room names.old q ≤ name_room names.new q }
 {
-    names.turn(p, n, near, r, more);
+    names.turn(p, r, more);
 }
 
 // The record of the name that the reference gives, if it gives one, counts it or no longer.
 #[inline(always)]
-fn turn_user(names: &mut Names, r: Reference, more: bool, near: Near)
+fn turn_user(names: &mut Names, r: Reference, more: bool)
     ensures turned { (q : ℕ) (x : declared.Identity) → name_at names.new q x
         ≡ (if gives_name_to q r.holder && same r.object x then option_map (spec.name_turned more r) (name_at names.old q x) else name_at names.old q x) }
     ensures named { (q m : ℕ) → named_by names.new q m ≡ named_by names.old q m }
@@ -63,12 +54,12 @@ fn turn_user(names: &mut Names, r: Reference, more: bool, near: Near)
     ensures uses { (q : ℕ) → name_room names.old q ≤ name_room names.new q }
 {
     if let Some(p) = user_of(r.holder) {
-        turn_name(names, p, r, more, near.number, near.process);
+        turn_name(names, p, r, more);
     }
 }
 
 /// Counts the reference, or no longer, in the records of its object and of the name that it gives.
-pub(crate) fn turn(objects: &mut Objects, names: &mut Names, r: Reference, more: bool, near: Near)
+pub(crate) fn turn(objects: &mut Objects, names: &mut Names, r: Reference, more: bool)
     ensures objects { (x : declared.Identity) → row_at objects.new x
         ≡ (if same r.object x then option_map (spec.turned more r) (row_at objects.old x) else row_at objects.old x) }
     ensures names { (q : ℕ) (x : declared.Identity) → name_at names.new q x
@@ -78,6 +69,6 @@ pub(crate) fn turn(objects: &mut Objects, names: &mut Names, r: Reference, more:
     ensures objects_room { object_room objects.old ≤ object_room objects.new }
     ensures names_room { (q : ℕ) → name_room names.old q ≤ name_room names.new q }
 {
-    turn_object(objects, r, more, near.object);
-    turn_user(names, r, more, near);
+    turn_object(objects, r, more);
+    turn_user(names, r, more);
 }

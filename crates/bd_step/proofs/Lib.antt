@@ -2,6 +2,7 @@ pub mod Refusals
 pub mod Standing
 pub mod Meeting
 pub mod Seating
+pub mod Gathered
 pub mod Gathering
 pub mod Exiting
 pub mod Living

@@ -1,6 +1,7 @@
 -- What is gathered before an exit, so that all that it touches is among it.
-use Rattle.std.specs.Prelude.{ℕ, ◌≡◌, ◌==◌, true, List, Some}
+use Rattle.std.specs.{Prelude.{ℕ, ◌≡◌, ◌==◌, ◌||◌, Bool, true, false, List, Some}, List.{list_any}}
 use Rattle.bd_ways.specs.Words.{Identity, Object, Reference, Frame, Work, WorkKind, TodoList, OfThread, OfProcess, Space}
+use Rattle.bd_space.specs.declared.space.WorkKind.TheVariants.{Notice, Reply, Call}
 use Rattle.bd_space.specs.References.{is_of_buffer}
 use Rattle.bd_space.specs.Frames.{serves}
 use Rattle.bd_space.specs.Todo.{work_on, hands_out, is_call, is_notice}
@@ -46,3 +47,17 @@ pub record HasProcess (x : Exit) (s : Space) (seats : List ℕ) (p : ℕ) : Type
   pub list : HasList x s (OfProcess p)
   pub owned : (y : Object) → In y s.objects → (y.owner == p) ≡ true → HasObject x y.id
   pub dropped : (r : Reference) → In r s.references → is_dropped_with s.objects p r ≡ true → HasObject x r.object
+
+-- ---- whether anything is gathered at all
+
+abbrev pub gathers_work : Space → WorkKind → Bool
+gathers_work s (Notice o) = true
+gathers_work s (Reply b) = list_any (λ r. is_of_buffer b r.holder) s.references
+gathers_work s (Call b) = true
+gathers_work s _ = false
+
+abbrev pub gathers_list : Space → TodoList → Bool
+gathers_list s list = list_any (λ w. gathers_work s w.kind) (work_on s.todo (Some list))
+
+abbrev pub gathers_thread : Space → ℕ → Bool
+gathers_thread s seat = list_any (λ f. serves seat f.server) s.frames || gathers_list s (OfThread seat)

@@ -1,12 +1,12 @@
 //! What an exit touches, gathered before anything changes: nothing else is looked at afterwards.
 
-ghost use Rattle.std.specs.Prelude.{◌≡◌, ◌+◌, ◌≤◌, length, OnOk, IfOk};
+ghost use Rattle.std.specs.{Prelude.{◌≡◌, ◌+◌, ◌≤◌, true, length, OnOk, OnErr, IfOk}, List.{list_any}};
 ghost use Rattle.bd_space.specs.Space.{Space};
 ghost use Rattle.bd_laws.specs.{Lists.{Pairs}, Objects.{NotLater}};
 ghost use Rattle.bd_deaths.specs.Due.{due_in};
 ghost use Rattle.bd_calls.specs.Room.{frame_count, work_room};
 ghost use Rattle.bd_step.specs.{Stands.{Before, TellsBefore, KeepsTold}, Meets.{IsKept}};
-ghost use Rattle.bd_step.specs.Exits.{Grows, HasWork, HasList, HasThread, HasThreads, HasProcess};
+ghost use Rattle.bd_step.specs.Exits.{Grows, HasWork, HasList, HasThread, HasThreads, HasProcess, gathers_work, gathers_list, gathers_thread};
 
 use crate::tables::Tables;
 use crate::touched::in_order;
@@ -59,6 +59,8 @@ impl Tables {
     fn touch_work(&self, kind: WorkKind, exit: &mut Exit) -> Result<(), AllocError>
         ensures has { OnOk result ((s : Space) → Before self.now s → HasWork exit.new s kind) }
         ensures grows { OnOk result ((s : Space) → Before self.now s → Grows exit.old exit.new) }
+        // Memory was asked for: there is something to be gathered. So of the others.
+        ensures grown { OnErr result ((s : Space) → Before self.now s → gathers_work s kind ≡ true) }
     {
         match kind {
             WorkKind::Notice(o) => exit.objects.push(o)?,
@@ -75,6 +77,7 @@ impl Tables {
     fn touch_list(&self, list: TodoList, exit: &mut Exit) -> Result<(), AllocError>
         ensures has { OnOk result ((s : Space) → Before self.now s → HasList exit.new s list) }
         ensures grows { OnOk result ((s : Space) → Before self.now s → Grows exit.old exit.new) }
+        ensures grown { OnErr result ((s : Space) → Before self.now s → gathers_list s list ≡ true) }
     {
         for work in self.calls.works_on(list) {
             self.touch_work(work.kind, exit)?;
@@ -85,6 +88,7 @@ impl Tables {
     fn touch_thread(&self, seat: u32, exit: &mut Exit) -> Result<(), AllocError>
         ensures has { OnOk result ((s : Space) → Before self.now s → HasThread exit.new s seat) }
         ensures grows { OnOk result ((s : Space) → Before self.now s → Grows exit.old exit.new) }
+        ensures grown { OnErr result ((s : Space) → Before self.now s → gathers_thread s seat ≡ true) }
     {
         self.calls.served(seat, &mut exit.frames)?;
         self.touch_list(TodoList::OfThread(seat), exit)?;
@@ -94,6 +98,7 @@ impl Tables {
     fn touch_threads(&self, seats: &[u32], exit: &mut Exit) -> Result<(), AllocError>
         ensures has { OnOk result ((s : Space) → Before self.now s → HasThreads exit.new s seats.now) }
         ensures grows { OnOk result ((s : Space) → Before self.now s → Grows exit.old exit.new) }
+        ensures grown { OnErr result ((s : Space) → Before self.now s → list_any (gathers_thread s) seats.now ≡ true) }
     {
         for seat in seats {
             self.touch_thread(*seat, exit)?;

@@ -1,9 +1,9 @@
 //! What follows from a change at some names and objects: nothing else is looked at.
 
-ghost use Rattle.std.specs.Prelude.{◌≡◌, ◌≤◌, [], ◌∷◌, length};
+ghost use Rattle.std.specs.Prelude.{◌≡◌, ◌≤◌, [], ◌∷◌, true, length};
 ghost use Rattle.bd_space.specs.{Space.{Space}, References.{object_in}};
 ghost use Rattle.bd_ways.specs.Local.{follow_of, at_name, at_object, no_name, is_among, names_among};
-ghost use Rattle.bd_laws.specs.{Lists.{Pairs}, Objects.{NotLater}};
+ghost use Rattle.bd_laws.specs.{Lists.{Pairs}, Objects.{NotLater, is_earlier}};
 ghost use Rattle.bd_objects.specs.Telling.{owner_due};
 ghost use Rattle.bd_calls.specs.Room.{work_room};
 ghost use Rattle.bd_step.specs.Stands.{Within, Uses, MakesWithin, TellsWithin, UsesNothing, KeepsTold};
@@ -12,6 +12,22 @@ ghost use Rattle.bd_step.specs.Following.{deaths_followed, deaths_withdrawn, fol
 use crate::tables::Tables;
 use bd_space::{Identity, TodoList};
 
+// Whether the first object was made before the second.
+#[inline(always)]
+fn is_earlier(o: &Identity, i: &Identity) -> bool
+    ensures { result ≡ is_earlier o.now i.now }
+{
+    o.place < i.place || (o.place == i.place && o.index < i.index)
+}
+
+// Whether none of them stands behind one that was made later.
+#[inline(always)]
+fn stand_in_order(objects: &[Identity]) -> bool
+    ensures { result ≡ true → Pairs NotLater objects.now }
+{
+    objects.is_sorted_by(|x, y| !is_earlier(y, x))
+}
+
 /// The objects in the order in which they were made.
 // Put into its callers: mostly there is nothing to be sorted.
 #[inline(always)]
@@ -19,8 +35,8 @@ pub(crate) fn in_order(mut objects: Vec<Identity>) -> Vec<Identity>
     ensures touched { AreTouched (is_among objects.items) result.items }
     ensures len { length result.items ≡ length objects.items }
 {
-    // Most steps touch one object at most.
-    if objects.len() > 1 {
+    // Most steps touch one object at most, and a parcel's new objects are in order.
+    if !stand_in_order(&objects) {
         objects.sort_unstable_by_key(|o| (o.place, o.index));
     }
     objects

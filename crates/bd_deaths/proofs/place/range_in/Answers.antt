@@ -1,8 +1,13 @@
 use Rattle.std.proofs.Common.{rules, tests, ltb}
 use Rattle.std.proofs.lemmas.List.Sorted.{IsPartitionPoint-from_clause}
 use Rattle.bd_deaths.specs.declared.slot.Slot.{Slot}
-use Rattle.bd_deaths.proofs.Places.{partitioned, within_point, within_end}
+use Rattle.bd_deaths.proofs.Places.{partitioned, within_point, within_end, within_slot}
 use Rattle.bd_deaths.proofs.place.range_in.Goals as goal
+
+pub returns-then-is_made_at-clause-within : goal.returns-then-is_made_at-clause-within
+returns-then-is_made_at-clause-within c = λ h.
+    let there = c.if-is_made_at.true in
+    within_slot c.args.slots.now c.args.made c.args.guess h (c.is_made_at.ensures.within there) (c.is_made_at.ensures.made there)
 
 pub returns-then-from-slots-clause-within : goal.returns-then-from-slots-clause-within
 returns-then-from-slots-clause-within c = λ h.

@@ -1,22 +1,19 @@
-use Rattle.std.proofs.Common.{rules, arith, ◌+◌, ◌≤◌, List, [], ◌∷◌, length, get_or, refl, sym, ◌∙◌}
+use Rattle.std.proofs.Common.{rules, ◌+◌, get_or, refl, sym, subst, ◌∙◌}
 use Rattle.std.proofs.Math.Path.{fun_ext}
 use Rattle.std.proofs.lemmas.List.Sorted.{answers_always, list_any-IsPermutation}
-use Rattle.bd_ways.specs.Words.{Identity}
 use Rattle.bd_ways.specs.Local.{at_object}
 use Rattle.bd_laws.specs.{Lists.{Pairs}, Objects.{NotLater}}
 use Rattle.bd_laws.proofs.Earlier.{earlier_cmp, sorted_in_order}
 use Rattle.bd_step.proofs.touched.in_order.Goals as goal
 
-alone : (os : List Identity) → length os ≤ 1 → Pairs NotLater os
-alone [] le = search rules
-alone (o ∷ []) le = search rules
-alone (o ∷ p ∷ os) le = let no : ⊥ = omega (arith, le) in absurd no
+pub returns-else-not-stand_in_order-clause-touched : goal.returns-else-not-stand_in_order-clause-touched
+returns-else-not-stand_in_order-clause-touched c = record {
+  in_order = subst (Pairs NotLater) c.deref.ensures.value (c.stand_in_order.ensures c.if-not-stand_in_order.false);
+  among = refl;
+}
 
-pub returns-else-len-gt1-clause-touched : goal.returns-else-len-gt1-clause-touched
-returns-else-len-gt1-clause-touched c = record { in_order = alone c.args.objects.items (omega (arith, c.if-len-gt1.false, c.len.ensures)); among = refl }
-
-pub returns-then-len-gt1-clause-touched : goal.returns-then-len-gt1-clause-touched
-returns-then-len-gt1-clause-touched c =
+pub returns-then-not-stand_in_order-clause-touched : goal.returns-then-not-stand_in_order-clause-touched
+returns-then-not-stand_in_order-clause-touched c =
     let os = c.sort_unstable_by_key.new.self.items in
     let sorted = c.sort_unstable_by_key.ensures.sorted (λ o. (o.place, o.index)) (answers_always _ _ _ (λ f a r g called. search rules)) in
     record {

@@ -21,3 +21,6 @@ returns-else-is_none-clause-gone g c = λ f k rs h none.
     let number = sym c.of.ensures ∙ c.in-Some.is in
     let empty = ring_there f k E (g.N.Numbering.number t.numbers) t.chains (law.one_number t.numbers) rs h c.args.key c.in-Some.number number rs h.listed none in
     grind (arith, c.first.ensures rs h.holds ∙ ap (λ ks. slice_get ks 0) empty, c.is_none.ensures, c.if-is_none.false)
+
+pub returns-then-is_none-clause-fewer : goal.returns-then-is_none-clause-fewer
+returns-then-is_none-clause-fewer g c = λ k none. grind (arith, c.remove.ensures.numbers k, none)

@@ -9,3 +9,10 @@ returns-then-names-gt-AHEAD-clause-stands c = λ s h. elim c.then-names-gt-AHEAD
   | then-names-gt-AHEAD-via-else-names-gt-AHEAD+then-is_err w ↦ subst (λ t. StandsFor t s) (sym w.self-is)
       (record { records_are = w.reserve_names.ensures.stands s.objects s.references h.records_are; names_are = w.reserve_names.ensures.names s.names s.names h.names_are; deaths_are = h.deaths_are })
 ]
+
+pub returns-clause-stands : goal.returns-clause-stands
+returns-clause-stands c = λ s h. record {
+  records_are = c.reserve_names.ensures.stands s.objects s.references h.records_are;
+  names_are = c.reserve_names.ensures.names s.names s.names h.names_are;
+  deaths_are = h.deaths_are;
+}

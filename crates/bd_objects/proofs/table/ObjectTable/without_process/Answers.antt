@@ -1,6 +1,6 @@
-use Rattle.std.proofs.Common.{subst}
+use Rattle.std.proofs.Common.{◌≡◌, None, subst, sym}
 use Rattle.bd_space.specs.ProcessExits.{without_process}
-use Rattle.bd_records.specs.Records.{RecordsAre}
+use Rattle.bd_records.specs.{Records.{RecordsAre}, Buffers.{list_of, window_list}}
 use Rattle.bd_objects.proofs.Owned.{goes_with}
 use Rattle.bd_objects.proofs.Ending.{none_named}
 use Rattle.bd_objects.proofs.table.ObjectTable.without_process.Goals as goal
@@ -14,3 +14,14 @@ returns-clause-stands c = λ s h. record {
   names_are = c.remove_process_names.ensures.names s.names (c.remove_of_owned.ensures.settled s.names (c.remove_with_process.ensures.settled s.names h.names_are));
   deaths_are = c.remove_process.ensures.stands s.deaths h.deaths_are;
 }
+
+pub returns-clause-names : goal.returns-clause-names
+returns-clause-names c = c.remove_process_names.ensures.gone
+
+pub returns-clause-window : goal.returns-clause-window
+returns-clause-window c = λ s h. subst (λ t. window_list t c.args.p ≡ None) (sym c.remove_process_names.ensures.held)
+    (subst (λ t. window_list t c.args.p ≡ None) (sym c.remove_of_owned.ensures.held) (c.remove_with_process.ensures.gone s.objects s.references h.records_are))
+
+pub returns-clause-buffers : goal.returns-clause-buffers
+returns-clause-buffers c = λ s b h lies. subst (λ t. list_of t b ≡ None) (sym c.remove_process_names.ensures.held)
+    (subst (λ t. list_of t b ≡ None) (sym c.remove_of_owned.ensures.held) (c.remove_with_process.ensures.buffers s.objects s.references b h.records_are lies))

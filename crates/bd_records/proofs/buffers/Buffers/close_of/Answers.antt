@@ -20,3 +20,6 @@ pub returns-in_default-clause-gone : goal.returns-in_default-clause-gone
 returns-in_default-clause-gone c = λ b l at h none.
     let lay = some_of (λ x. x.buffer) c.berth_of.result b (c.berth_of.ensures.buffer ∙ at) in
     absurd (c.in_default.not-Some lay.0 lay.1)
+
+pub returns-in-Some-clause-fewer : goal.returns-in-Some-clause-fewer
+returns-in-Some-clause-fewer c = c.close.ensures.fewer

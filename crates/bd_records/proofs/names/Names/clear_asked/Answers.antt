@@ -20,7 +20,7 @@ invariant_of-self-clause-found c =
     let t = c.args.self.now in
     let p = c.args.p in
     let k = c.in-Some.k in
-    let at = sym c.number_near.ensures ∙ c.in-Some.is in
+    let at = sym c.number_of.ensures ∙ c.in-Some.is in
     let here : value_at t.rows p k ≡ Some c.in-Some-get.w = sym c.get.ensures ∙ c.in-Some-get.is in
     by_process (λ q. AreFound (λ j. option_map object_of (value_at c.set.new.self q j)) (number_at t.numbers q)) p
     (set_found object_of (value_at t.rows p) (value_at c.set.new.self p) (number_at t.numbers p) (number_at t.numbers p) c.args.o k (t.found p) (t.leads p) at unasked (kept_object c.args.o)
@@ -32,7 +32,7 @@ invariant_of-self-clause-leads c =
     let t = c.args.self.now in
     let p = c.args.p in
     let k = c.in-Some.k in
-    let at = sym c.number_near.ensures ∙ c.in-Some.is in
+    let at = sym c.number_of.ensures ∙ c.in-Some.is in
     let here : value_at t.rows p k ≡ Some c.in-Some-get.w = sym c.get.ensures ∙ c.in-Some-get.is in
     by_process (λ q. Lead (λ j. option_map object_of (value_at c.set.new.self q j)) (number_at t.numbers q)) p
     (set_leads object_of (value_at t.rows p) (value_at c.set.new.self p) (number_at t.numbers p) (number_at t.numbers p) c.args.o k (t.found p) (t.leads p) at unasked (kept_object c.args.o)
@@ -44,7 +44,7 @@ returns-in-Some-get-clause-cleared c =
     let t = c.args.self.now in
     let p = c.args.p in
     let k = c.in-Some.k in
-    let at = sym c.number_near.ensures ∙ c.in-Some.is in
+    let at = sym c.number_of.ensures ∙ c.in-Some.is in
     let here : value_at t.rows p k ≡ Some c.in-Some-get.w = sym c.get.ensures ∙ c.in-Some-get.is in
     by_process (λ q. (x : Identity) → on_slot None (value_at c.set.new.self q) (number_at t.numbers q x)
     ≡ cond ((p == q) && same c.args.o x) (option_map unasked (on_slot None (value_at t.rows q) (number_at t.numbers q x))) (on_slot None (value_at t.rows q) (number_at t.numbers q x))) p
@@ -59,6 +59,6 @@ returns-in-Some-get-clause-cleared c =
 pub unreachable-requires : goal.unreachable-requires
 unreachable-requires c =
     let t = c.args.self.now in
-    let h : is_some (value_at t.rows c.args.p c.in-Some.k) ≡ true = shown_some object_of (value_at t.rows c.args.p c.in-Some.k) c.args.o (t.leads c.args.p c.args.o c.in-Some.k (sym c.number_near.ensures ∙ c.in-Some.is)) in
+    let h : is_some (value_at t.rows c.args.p c.in-Some.k) ≡ true = shown_some object_of (value_at t.rows c.args.p c.in-Some.k) c.args.o (t.leads c.args.p c.args.o c.in-Some.k (sym c.number_of.ensures ∙ c.in-Some.is)) in
     let e : is_some (value_at t.rows c.args.p c.in-Some.k) ≡ false = ap is_some (sym c.get.ensures ∙ c.in-None.is) in
     cc

@@ -13,7 +13,7 @@ invariant_of-self-clause-found c =
     let t = c.args.self.now in
     let p = c.args.p in
     by_process (λ q. AreFound (λ j. option_map object_of (value_at c.remove-row.new.self q j)) (number_at c.remove_number.new.numbers q)) p
-    (gone_found object_of (value_at t.rows p) (value_at c.remove-row.new.self p) (number_at t.numbers p) (number_at c.remove_number.new.numbers p) c.args.o c.in-Some.k (t.found p) (t.leads p) (sym c.number_near.ensures ∙ c.in-Some.is)
+    (gone_found object_of (value_at t.rows p) (value_at c.remove-row.new.self p) (number_at t.numbers p) (number_at c.remove_number.new.numbers p) c.args.o c.in-Some.k (t.found p) (t.leads p) (sym c.number_of.ensures ∙ c.in-Some.is)
     (λ j. grind (arith, c.remove-row.ensures.at p j, own_process p)) (λ x. grind (arith, c.remove_number.ensures.at p x, own_process p)))
     (λ q off x j e. grind (arith, off, c.remove_number.ensures.at q x, t.found q x j, e, c.remove-row.ensures.at q j))
 
@@ -22,7 +22,7 @@ invariant_of-self-clause-leads c =
     let t = c.args.self.now in
     let p = c.args.p in
     by_process (λ q. Lead (λ j. option_map object_of (value_at c.remove-row.new.self q j)) (number_at c.remove_number.new.numbers q)) p
-    (gone_leads object_of (value_at t.rows p) (value_at c.remove-row.new.self p) (number_at t.numbers p) (number_at c.remove_number.new.numbers p) c.args.o c.in-Some.k (t.found p) (t.leads p) (sym c.number_near.ensures ∙ c.in-Some.is)
+    (gone_leads object_of (value_at t.rows p) (value_at c.remove-row.new.self p) (number_at t.numbers p) (number_at c.remove_number.new.numbers p) c.args.o c.in-Some.k (t.found p) (t.leads p) (sym c.number_of.ensures ∙ c.in-Some.is)
     (λ j. grind (arith, c.remove-row.ensures.at p j, own_process p)) (λ x. grind (arith, c.remove_number.ensures.at p x, own_process p)))
     (λ q off x j e. grind (arith, off, c.remove_number.ensures.at q x, t.leads q x j, e, c.remove-row.ensures.at q j))
 
@@ -35,7 +35,7 @@ returns-in-Some-clause-names c =
     (λ x. grind (
       arith,
       own_process p,
-      gone_at object_of (value_at t.rows p) (value_at c.remove-row.new.self p) (number_at t.numbers p) (number_at c.remove_number.new.numbers p) c.args.o c.in-Some.k (t.found p) (t.leads p) (sym c.number_near.ensures ∙ c.in-Some.is)
+      gone_at object_of (value_at t.rows p) (value_at c.remove-row.new.self p) (number_at t.numbers p) (number_at c.remove_number.new.numbers p) c.args.o c.in-Some.k (t.found p) (t.leads p) (sym c.number_of.ensures ∙ c.in-Some.is)
           (λ j. grind (arith, c.remove-row.ensures.at p j, own_process p)) (λ x. grind (arith, c.remove_number.ensures.at p x, own_process p)) x,
     ))
     (λ q off x. at q off x (number_at t.numbers q x) refl)

@@ -11,14 +11,14 @@ use Rattle.bd_records.proofs.names.Names.set.Goals as goal
 pub set-requires : goal.set-requires
 set-requires c =
     let t = c.args.self.now in
-    shown_some object_of (value_at t.rows c.args.p c.in-Some.k) c.args.row.object (t.leads c.args.p c.args.row.object c.in-Some.k (sym c.number_near.ensures ∙ c.in-Some.is))
+    shown_some object_of (value_at t.rows c.args.p c.in-Some.k) c.args.row.object (t.leads c.args.p c.args.row.object c.in-Some.k (sym c.number_of.ensures ∙ c.in-Some.is))
 
 pub invariant_of-self-clause-found : goal.invariant_of-self-clause-found
 invariant_of-self-clause-found c =
     let t = c.args.self.now in
     let p = c.args.p in
     let k = c.in-Some.k in
-    let at = sym c.number_near.ensures ∙ c.in-Some.is in
+    let at = sym c.number_of.ensures ∙ c.in-Some.is in
     let here = shown_some object_of (value_at t.rows p k) c.args.row.object (t.leads p c.args.row.object k at) in
     by_process (λ q. AreFound (λ j. option_map object_of (value_at c.set.new.self q j)) (number_at t.numbers q)) p
     (set_found object_of (value_at t.rows p) (value_at c.set.new.self p) (number_at t.numbers p) (number_at t.numbers p) c.args.row.object k (t.found p) (t.leads p) at (λ _. c.args.row) (λ v e. refl)
@@ -30,7 +30,7 @@ invariant_of-self-clause-leads c =
     let t = c.args.self.now in
     let p = c.args.p in
     let k = c.in-Some.k in
-    let at = sym c.number_near.ensures ∙ c.in-Some.is in
+    let at = sym c.number_of.ensures ∙ c.in-Some.is in
     let here = shown_some object_of (value_at t.rows p k) c.args.row.object (t.leads p c.args.row.object k at) in
     by_process (λ q. Lead (λ j. option_map object_of (value_at c.set.new.self q j)) (number_at t.numbers q)) p
     (set_leads object_of (value_at t.rows p) (value_at c.set.new.self p) (number_at t.numbers p) (number_at t.numbers p) c.args.row.object k (t.found p) (t.leads p) at (λ _. c.args.row) (λ v e. refl)
@@ -42,7 +42,7 @@ returns-in-Some-clause-set c =
     let t = c.args.self.now in
     let p = c.args.p in
     let k = c.in-Some.k in
-    let at = sym c.number_near.ensures ∙ c.in-Some.is in
+    let at = sym c.number_of.ensures ∙ c.in-Some.is in
     let here = shown_some object_of (value_at t.rows p k) c.args.row.object (t.leads p c.args.row.object k at) in
     by_process (λ q. (x : Identity) → on_slot None (value_at c.set.new.self q) (number_at t.numbers q x)
     ≡ cond ((p == q) && same c.args.row.object x) (option_map (λ _. c.args.row) (on_slot None (value_at t.rows q) (number_at t.numbers q x))) (on_slot None (value_at t.rows q) (number_at t.numbers q x))) p

@@ -21,7 +21,7 @@ invariant_of-self-clause-found c =
     let t = c.args.self.now in
     let p = c.args.p in
     let k = c.in-Some.k in
-    let at = sym c.number_near.ensures ∙ c.in-Some.is in
+    let at = sym c.number_of.ensures ∙ c.in-Some.is in
     let here : value_at t.rows p k ≡ Some c.in-Some-get.w = sym c.get.ensures ∙ c.in-Some-get.is in
     by_process (λ q. AreFound (λ j. option_map object_of (value_at c.set.new.self q j)) (number_at t.numbers q)) p
     (set_found object_of (value_at t.rows p) (value_at c.set.new.self p) (number_at t.numbers p) (number_at t.numbers p) c.args.r.object k (t.found p) (t.leads p) at (name_turned c.args.more c.args.r) (kept_object c.args.more c.args.r c.args.r.object)
@@ -33,7 +33,7 @@ invariant_of-self-clause-leads c =
     let t = c.args.self.now in
     let p = c.args.p in
     let k = c.in-Some.k in
-    let at = sym c.number_near.ensures ∙ c.in-Some.is in
+    let at = sym c.number_of.ensures ∙ c.in-Some.is in
     let here : value_at t.rows p k ≡ Some c.in-Some-get.w = sym c.get.ensures ∙ c.in-Some-get.is in
     by_process (λ q. Lead (λ j. option_map object_of (value_at c.set.new.self q j)) (number_at t.numbers q)) p
     (set_leads object_of (value_at t.rows p) (value_at c.set.new.self p) (number_at t.numbers p) (number_at t.numbers p) c.args.r.object k (t.found p) (t.leads p) at (name_turned c.args.more c.args.r) (kept_object c.args.more c.args.r c.args.r.object)
@@ -45,7 +45,7 @@ returns-in-Some-get-clause-turned c =
     let t = c.args.self.now in
     let p = c.args.p in
     let k = c.in-Some.k in
-    let at = sym c.number_near.ensures ∙ c.in-Some.is in
+    let at = sym c.number_of.ensures ∙ c.in-Some.is in
     let here : value_at t.rows p k ≡ Some c.in-Some-get.w = sym c.get.ensures ∙ c.in-Some-get.is in
     by_process (λ q. (x : Identity) → on_slot None (value_at c.set.new.self q) (number_at t.numbers q x)
     ≡ cond ((p == q) && same c.args.r.object x) (option_map (name_turned c.args.more c.args.r) (on_slot None (value_at t.rows q) (number_at t.numbers q x))) (on_slot None (value_at t.rows q) (number_at t.numbers q x))) p
@@ -60,6 +60,6 @@ returns-in-Some-get-clause-turned c =
 pub unreachable-requires : goal.unreachable-requires
 unreachable-requires c =
     let t = c.args.self.now in
-    let h : is_some (value_at t.rows c.args.p c.in-Some.k) ≡ true = shown_some object_of (value_at t.rows c.args.p c.in-Some.k) c.args.r.object (t.leads c.args.p c.args.r.object c.in-Some.k (sym c.number_near.ensures ∙ c.in-Some.is)) in
+    let h : is_some (value_at t.rows c.args.p c.in-Some.k) ≡ true = shown_some object_of (value_at t.rows c.args.p c.in-Some.k) c.args.r.object (t.leads c.args.p c.args.r.object c.in-Some.k (sym c.number_of.ensures ∙ c.in-Some.is)) in
     let e : is_some (value_at t.rows c.args.p c.in-Some.k) ≡ false = ap is_some (sym c.get.ensures ∙ c.in-None.is) in
     cc

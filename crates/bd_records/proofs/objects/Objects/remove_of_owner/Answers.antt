@@ -13,14 +13,14 @@ id r = r.object.id
 pub invariant_of-self-clause-found : goal.invariant_of-self-clause-found
 invariant_of-self-clause-found c =
     let t = c.args.self.now in
-    set_found id (get t.rows) (get c.remove_of_owner_in.new.rows) (slot_at t) (slot_at t) c.args.o c.in-Some.k t.found t.leads (sym c.slot_near.ensures ∙ c.in-Some.is) (disowned) (λ w e. e) c.remove_of_owner_in.ensures.set
+    set_found id (get t.rows) (get c.remove_of_owner_in.new.rows) (slot_at t) (slot_at t) c.args.o c.in-Some.k t.found t.leads (sym c.slot_of.ensures ∙ c.in-Some.is) (disowned) (λ w e. e) c.remove_of_owner_in.ensures.set
 
 pub invariant_of-self-clause-leads : goal.invariant_of-self-clause-leads
 invariant_of-self-clause-leads c =
     let t = c.args.self.now in
-    set_leads id (get t.rows) (get c.remove_of_owner_in.new.rows) (slot_at t) (slot_at t) c.args.o c.in-Some.k t.found t.leads (sym c.slot_near.ensures ∙ c.in-Some.is) (disowned) (λ w e. e) c.remove_of_owner_in.ensures.set
+    set_leads id (get t.rows) (get c.remove_of_owner_in.new.rows) (slot_at t) (slot_at t) c.args.o c.in-Some.k t.found t.leads (sym c.slot_of.ensures ∙ c.in-Some.is) (disowned) (λ w e. e) c.remove_of_owner_in.ensures.set
 
 pub returns-in-Some-clause-disowned : goal.returns-in-Some-clause-disowned
 returns-in-Some-clause-disowned c =
     let t = c.args.self.now in
-    set_at id (get t.rows) (get c.remove_of_owner_in.new.rows) (slot_at t) (slot_at t) c.args.o c.in-Some.k t.found t.leads (sym c.slot_near.ensures ∙ c.in-Some.is) (disowned) (λ w e. e) c.remove_of_owner_in.ensures.set
+    set_at id (get t.rows) (get c.remove_of_owner_in.new.rows) (slot_at t) (slot_at t) c.args.o c.in-Some.k t.found t.leads (sym c.slot_of.ensures ∙ c.in-Some.is) (disowned) (λ w e. e) c.remove_of_owner_in.ensures.set

@@ -18,14 +18,14 @@ kept_id false r o w e = e
 pub invariant_of-self-clause-found : goal.invariant_of-self-clause-found
 invariant_of-self-clause-found c =
     let t = c.args.self.now in
-    set_found id (get t.rows) (get c.turn_row.new.rows) (slot_at t) (slot_at t) c.args.r.object c.in-Some.k t.found t.leads (sym c.slot_near.ensures ∙ c.in-Some.is) (turned c.args.more c.args.r) (kept_id c.args.more c.args.r c.args.r.object) c.turn_row.ensures.set
+    set_found id (get t.rows) (get c.turn_row.new.rows) (slot_at t) (slot_at t) c.args.r.object c.in-Some.k t.found t.leads (sym c.slot_of.ensures ∙ c.in-Some.is) (turned c.args.more c.args.r) (kept_id c.args.more c.args.r c.args.r.object) c.turn_row.ensures.set
 
 pub invariant_of-self-clause-leads : goal.invariant_of-self-clause-leads
 invariant_of-self-clause-leads c =
     let t = c.args.self.now in
-    set_leads id (get t.rows) (get c.turn_row.new.rows) (slot_at t) (slot_at t) c.args.r.object c.in-Some.k t.found t.leads (sym c.slot_near.ensures ∙ c.in-Some.is) (turned c.args.more c.args.r) (kept_id c.args.more c.args.r c.args.r.object) c.turn_row.ensures.set
+    set_leads id (get t.rows) (get c.turn_row.new.rows) (slot_at t) (slot_at t) c.args.r.object c.in-Some.k t.found t.leads (sym c.slot_of.ensures ∙ c.in-Some.is) (turned c.args.more c.args.r) (kept_id c.args.more c.args.r c.args.r.object) c.turn_row.ensures.set
 
 pub returns-in-Some-clause-turned : goal.returns-in-Some-clause-turned
 returns-in-Some-clause-turned c =
     let t = c.args.self.now in
-    set_at id (get t.rows) (get c.turn_row.new.rows) (slot_at t) (slot_at t) c.args.r.object c.in-Some.k t.found t.leads (sym c.slot_near.ensures ∙ c.in-Some.is) (turned c.args.more c.args.r) (kept_id c.args.more c.args.r c.args.r.object) c.turn_row.ensures.set
+    set_at id (get t.rows) (get c.turn_row.new.rows) (slot_at t) (slot_at t) c.args.r.object c.in-Some.k t.found t.leads (sym c.slot_of.ensures ∙ c.in-Some.is) (turned c.args.more c.args.r) (kept_id c.args.more c.args.r c.args.r.object) c.turn_row.ensures.set

@@ -13,7 +13,7 @@ returns-in-Some-clause-stands c = λ objects l h.
     let t = c.args.self.now in
     let p = c.args.p in
     let o = c.args.o in
-    let is : asked_of (name_at t.names p o) ≡ c.in-Some.w.asked = ap asked_of (sym c.row_near.ensures.is ∙ c.in-Some.is) in
+    let is : asked_of (name_at t.names p o) ≡ c.in-Some.w.asked = ap asked_of (sym c.row_of.ensures.is ∙ c.in-Some.is) in
     let rows = subst (λ k. (y : Identity) → row_at c.subtract.new.self y ≡ cond (same o y) (option_map (lowered k) (row_at t.objects y)) (row_at t.objects y)) (sym is) c.subtract.ensures.lowered in
     record {
       objects_are = λ y. h.objects_are y ∙ sym (lowered_objects p o (row_at t.objects) (row_at c.subtract.new.self) (name_at t.names) (name_at c.clear_asked.new.self) objects l h.counts rows c.clear_asked.ensures.cleared y);
@@ -31,7 +31,7 @@ pub returns-in_default-clause-stands : goal.returns-in_default-clause-stands
 returns-in_default-clause-stands c = λ objects l h.
     let t = c.args.self.now in
     let none : (s : Bool) → count_by (is_asking c.args.p c.args.o s) l ≡ of_strength s (asked_of None) =
-    (λ s. sym (h.counts.asked c.args.p c.args.o s) ∙ ap (λ w. of_strength s (asked_of w)) (sym c.row_near.ensures.is ∙ c.in_default.is)) in
+    (λ s. sym (h.counts.asked c.args.p c.args.o s) ∙ ap (λ w. of_strength s (asked_of w)) (sym c.row_of.ensures.is ∙ c.in_default.is)) in
     subst (RecordsAre t objects) (sym (nothing_asked c.args.p c.args.o l (none false) (none true))) h
 
 pub returns-in-Some-clause-settled : goal.returns-in-Some-clause-settled

@@ -7,19 +7,19 @@ use Rattle.bd_records.proofs.{Naming.{shown_some}, Asked.{counts_named}, Given.{
 use Rattle.bd_records.proofs.records.Records.give_name.Goals as goal
 
 pub returns-in-Some-clause-names : goal.returns-in-Some-clause-names
-returns-in-Some-clause-names c = λ base names h. since_had c.args.self.now c.args.from_zero c.args.p c.args.o base names h (ap is_some (sym c.number_near.ensures ∙ c.in-Some.is))
+returns-in-Some-clause-names c = λ base names h. since_had c.args.self.now c.args.from_zero c.args.p c.args.o base names h (ap is_some (sym c.number_of.ensures ∙ c.in-Some.is))
 
 pub returns-in-Some-clause-named : goal.returns-in-Some-clause-named
 returns-in-Some-clause-named c =
     let t = c.args.self.now.names in
-    let is : number_of t c.args.p c.args.o ≡ Some c.in-Some.field-0 = sym c.number_near.ensures ∙ c.in-Some.is in
+    let is : number_of t c.args.p c.args.o ≡ Some c.in-Some.field-0 = sym c.number_of.ensures ∙ c.in-Some.is in
     ap (λ k. is_some (on_slot None (value_at t.rows c.args.p) k)) is
     ∙ shown_some object_of (value_at t.rows c.args.p c.in-Some.field-0) c.args.o (t.leads c.args.p c.args.o c.in-Some.field-0 is)
 
 pub returns-in-Ok-clause-stands : goal.returns-in-Ok-clause-stands
 returns-in-Ok-clause-stands c = λ objects l own h.
     let t = c.args.self.now.names in
-    let lacks : number_of t c.args.p c.args.o ≡ None = grind (arith, c.number_near.ensures, c.in_default.not-Some) in
+    let lacks : number_of t c.args.p c.args.o ≡ None = grind (arith, c.number_of.ensures, c.in_default.not-Some) in
     record {
       objects_are = h.objects_are;
       owners = h.owners;
@@ -39,7 +39,7 @@ returns-in-Ok-clause-names c = λ base names h.
     let u = c.give_name.new.names in
     let given = c.args.self.now.given.items in
     let m : Name = record { process = p; number = n; object = o } in
-    let lacks : number_of t p o ≡ None = grind (arith, c.number_near.ensures, c.in_default.not-Some) in
+    let lacks : number_of t p o ≡ None = grind (arith, c.number_of.ensures, c.in_default.not-Some) in
     let rows = c.in-Ok.ensures.rows in
     let put : name_at u p o ≡ Some (new_row o) = rows p o ∙ ap (λ b. cond b (Some (new_row o)) (name_at t p o)) (here p o) in
     let blank : IsBlank (name_at u p o) = (ap asked_of put, ap carried_of put) in

@@ -70,3 +70,9 @@ pub returns-in-None-clause-gone : goal.returns-in-None-clause-gone
 returns-in-None-clause-gone c = λ objects l r b h first at none.
     let same = sym c.in-None.is ∙ c.pop_in_window.ensures.first l h.held ∙ first in
     absurd cc
+
+pub returns-in-Some-clause-fewer : goal.returns-in-Some-clause-fewer
+returns-in-Some-clause-fewer c = λ b none. c.close_of.ensures.fewer b (c.pop_in_window.ensures.lists b ∙ none)
+
+pub returns-in-None-clause-fewer : goal.returns-in-None-clause-fewer
+returns-in-None-clause-fewer c = λ b none. c.pop_in_window.ensures.lists b ∙ none

@@ -6,7 +6,7 @@ use Rattle.bd_records.proofs.records.Records.refers.Goals as goal
 
 pub returns-then-not-is_empty : goal.returns-then-not-is_empty
 returns-then-not-is_empty c = λ objects l h free.
-    let is = sym c.row_near.ensures.is ∙ c.in-Some.is in
+    let is = sym c.row_of.ensures.is ∙ c.in-Some.is in
     let p = c.args.p in
     let o = c.args.o in
     let a = ap (λ w. of_strength false (asked_of w)) (sym is) ∙ h.counts.asked p o false in
@@ -19,7 +19,7 @@ returns-then-not-is_empty c = λ objects l h free.
 
 pub returns-else-not-is_empty : goal.returns-else-not-is_empty
 returns-else-not-is_empty c = λ objects l h free.
-    let is = sym c.row_near.ensures.is ∙ c.in-Some.is in
+    let is = sym c.row_of.ensures.is ∙ c.in-Some.is in
     let p = c.args.p in
     let o = c.args.o in
     let a = ap (λ w. of_strength false (asked_of w)) (sym is) ∙ h.counts.asked p o false in
@@ -32,7 +32,7 @@ returns-else-not-is_empty c = λ objects l h free.
 
 pub returns-in-None : goal.returns-in-None
 returns-in-None c = λ objects l h free.
-    let is = sym c.row_near.ensures.is ∙ c.in-None.is in
+    let is = sym c.row_of.ensures.is ∙ c.in-None.is in
     let p = c.args.p in
     let o = c.args.o in
     let a = ap (λ w. of_strength false (asked_of w)) (sym is) ∙ h.counts.asked p o false in

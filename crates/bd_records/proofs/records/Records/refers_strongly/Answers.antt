@@ -8,7 +8,7 @@ use Rattle.bd_records.proofs.records.Records.refers_strongly.Goals as goal
 
 pub returns-then-w-gt0 : goal.returns-then-w-gt0
 returns-then-w-gt0 c = λ objects l h free.
-    let is = sym c.row_near.ensures.is ∙ c.in-Some.is in
+    let is = sym c.row_of.ensures.is ∙ c.in-Some.is in
     let p = c.args.p in
     let o = c.args.o in
     let a : c.in-Some.w.asked.strong ≡ count_by (is_asking p o true) l = ap (λ w. of_strength true (asked_of w)) (sym is) ∙ h.counts.asked p o true in
@@ -17,7 +17,7 @@ returns-then-w-gt0 c = λ objects l h free.
 
 pub returns-else-w-gt0 : goal.returns-else-w-gt0
 returns-else-w-gt0 c = λ objects l h free.
-    let is = sym c.row_near.ensures.is ∙ c.in-Some.is in
+    let is = sym c.row_of.ensures.is ∙ c.in-Some.is in
     let p = c.args.p in
     let o = c.args.o in
     let a : c.in-Some.w.asked.strong ≡ count_by (is_asking p o true) l = ap (λ w. of_strength true (asked_of w)) (sym is) ∙ h.counts.asked p o true in
@@ -27,7 +27,7 @@ returns-else-w-gt0 c = λ objects l h free.
 
 pub returns-in-None : goal.returns-in-None
 returns-in-None c = λ objects l h free.
-    let is = sym c.row_near.ensures.is ∙ c.in-None.is in
+    let is = sym c.row_of.ensures.is ∙ c.in-None.is in
     let p = c.args.p in
     let o = c.args.o in
     let a : 0 ≡ count_by (is_asking p o true) l = ap (λ w. of_strength true (asked_of w)) (sym is) ∙ h.counts.asked p o true in

@@ -2,9 +2,9 @@ use Rattle.std.proofs.Common.{◌≡◌, true, false, length, filter, sym, ap, �
 use Rattle.std.specs.List.{list_any}
 use Rattle.bd_ways.specs.Words.{Reference}
 use Rattle.bd_space.specs.References.{is_in_window}
-use Rattle.bd_records.specs.{Buffers.{is_held}, Records.{RecordsAre}}
+use Rattle.bd_records.specs.{Buffers.{is_held, list_of}, Records.{RecordsAre}}
 use Rattle.bd_records.proofs.Lists.{none_first, found_is, rest_same, nothing_goes, first_less, any_empty, any_kept, first_kept, find_kept}
-use Rattle.bd_records.proofs.{Buffering.{in_held}, Given.{uses_nothing}}
+use Rattle.bd_records.proofs.{Buffering.{in_held}, Given.{uses_nothing}, Emptied.{emptied_next, emptied_all}}
 use Rattle.bd_records.proofs.records.Records.remove_each_in_window.Goals as goal
 
 pub loop-preserved : goal.loop-preserved
@@ -20,8 +20,14 @@ loop-preserved c = record {
       let f = found_is test m.0 any in
       let less = ap length (first_kept test is_held (in_held b) m.0) in
       let one = first_less test (filter is_held m.0) f.0 (find_kept test is_held (in_held b) m.0 ∙ f.1) in
-      let few = m.3 in
-      (_, c.pop_in_window.ensures.stands objects m.0 m.1, rest_same test m.0 ∙ m.2, omega (arith, less, one, few));
+      let few = m.3 in (
+        _,
+        c.pop_in_window.ensures.stands objects m.0 m.1,
+        rest_same test m.0 ∙ m.2,
+        omega (arith, less, one, few),
+        λ k here. emptied_next k b (list_of c.loop.self.held k) _ m.0
+            (λ r first lay none. c.pop_in_window.ensures.gone objects m.0 r k m.1 first lay none) (c.pop_in_window.ensures.fewer k) f.0 f.1 (m.4 k here),
+      );
 }
 
 pub returns-then-not-pop_in_window-clause-stands : goal.returns-then-not-pop_in_window-clause-stands
@@ -39,3 +45,18 @@ returns-clause-stands c = λ objects l h.
     let few = m.3 in
     let none : list_any test m.0 ≡ false = sym (any_kept test is_held (in_held c.args.p) m.0) ∙ any_empty test (filter is_held m.0) (omega (arith, few, all)) in
     subst (RecordsAre c.loop.self objects) (sym (nothing_goes test m.0 none) ∙ m.2) m.1
+
+pub returns-then-not-pop_in_window-clause-gone : goal.returns-then-not-pop_in_window-clause-gone
+returns-then-not-pop_in_window-clause-gone c = λ objects l b h lies.
+    let m = c.loop.invariant.left objects l h in
+    let none = sym (c.pop_in_window.ensures.any objects m.0 m.1) ∙ c.if-not-pop_in_window.true in
+    c.pop_in_window.ensures.fewer b (emptied_all c.args.p b (list_of c.loop.self.held b) m.0 l lies none m.2 (m.4 b lies.any))
+
+pub returns-clause-gone : goal.returns-clause-gone
+returns-clause-gone c = λ objects l b h lies.
+    let m = c.loop.invariant.left objects l h in
+    let test = (λ (x : Reference). is_in_window c.args.p x.holder) in
+    let all = c.len-end.ensures l h.held in
+    let few = m.3 in
+    let none : list_any test m.0 ≡ false = sym (any_kept test is_held (in_held c.args.p) m.0) ∙ any_empty test (filter is_held m.0) (omega (arith, few, all)) in
+    emptied_all c.args.p b (list_of c.loop.self.held b) m.0 l lies none m.2 (m.4 b lies.any)

@@ -1,7 +1,8 @@
-use Rattle.std.proofs.Common.{◌≡◌, ◌≤◌, ◌+◌, not, List, length, filter}
+use Rattle.std.proofs.Common.{◌≡◌, ◌≤◌, ◌+◌, ℕ, true, not, List, length, filter, None, ◌⊎◌}
+use Rattle.std.specs.List.{list_any}
 use Rattle.bd_ways.specs.Words.{Object, Reference}
-use Rattle.bd_space.specs.References.{is_in_window}
-use Rattle.bd_records.specs.{Buffers.{is_held}, Records.{RecordsAre}, NamesAre.{KeepsNames}, Since.{KeepsSettled}, Room.{Uses}}
+use Rattle.bd_space.specs.References.{is_in_window, is_of_buffer}
+use Rattle.bd_records.specs.{Buffers.{is_held, list_of}, Records.{RecordsAre}, NamesAre.{KeepsNames}, Since.{KeepsSettled}, Room.{Uses}}
 use Rattle.bd_records.proofs.records.Records.remove_each_in_window.Given as goal
 
 abbrev pub invariant-loop : goal.invariant-loop
@@ -12,5 +13,7 @@ invariant-loop l = record {
   left : (objects : List Object) (l0 : List Reference) → RecordsAre l.fn.self objects l0
       → (mid : List Reference) × RecordsAre l.self objects mid
       × (filter (λ r. not (is_in_window l.fn.p r.holder)) mid ≡ filter (λ r. not (is_in_window l.fn.p r.holder)) l0)
-      × (length (filter is_held mid) + l.counter ≤ length (filter is_held l0));
+      × (length (filter is_held mid) + l.counter ≤ length (filter is_held l0))
+      -- a buffer's list has gone, or something lies in it
+      × ((b : ℕ) → list_any (λ r. is_of_buffer b r.holder) l0 ≡ true → (list_of l.self.held b ≡ None) ⊎ (list_any (λ r. is_of_buffer b r.holder) mid ≡ true));
 }

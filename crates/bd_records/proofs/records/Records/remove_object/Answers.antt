@@ -14,7 +14,7 @@ returns-in-Some-clause-stands c = λ objects l unheld h.
     let o = c.args.o in
     let x = c.in-Some.w.object in
     let is : x.id ≡ o = c.in-Some.ensures.id in
-    let has : object_in objects o ≡ Some x = h.objects_are o ∙ ap (option_map object_of) (sym c.row_near.ensures.is ∙ c.in-Some.is) in
+    let has : object_in objects o ≡ Some x = h.objects_are o ∙ ap (option_map object_of) (sym c.row_of.ensures.is ∙ c.in-Some.is) in
     record {
       objects_are = went_objects (row_at t.objects) (row_at c.remove-in-Some.new.self) (name_at t.names) objects l h.counts h.objects_are h.owners o unheld c.remove-in-Some.ensures.at;
       owners = went_owners (row_at t.objects) (row_at c.remove-in-Some.new.self) (name_at t.names) objects l h.counts h.objects_are h.owners o unheld c.remove-in-Some.ensures.at;
@@ -27,5 +27,5 @@ returns-in-Some-clause-stands c = λ objects l unheld h.
 pub returns-in_default-clause-stands : goal.returns-in_default-clause-stands
 returns-in_default-clause-stands c = λ objects l unheld h.
     let o = c.args.o in
-    let none : object_in objects o ≡ None = h.objects_are o ∙ ap (option_map object_of) (sym c.row_near.ensures.is ∙ c.in_default.is) in
+    let none : object_in objects o ≡ None = h.objects_are o ∙ ap (option_map object_of) (sym c.row_of.ensures.is ∙ c.in_default.is) in
     subst (λ os. RecordsAre c.args.self.now os l) (sym (away_none id_key same o objects none)) h

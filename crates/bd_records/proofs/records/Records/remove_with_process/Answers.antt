@@ -1,7 +1,7 @@
-use Rattle.std.proofs.Common.{◌≡◌, Bool, true, false, not, filter, ◌&&◌, ◌||◌, refl, subst, arith}
+use Rattle.std.proofs.Common.{◌≡◌, Bool, true, false, not, filter, ◌&&◌, ◌||◌, refl, subst, arith, ◌∙◌}
 use Rattle.bd_space.specs.References.{is_asked_by, is_in_window}
 use Rattle.bd_records.specs.Records.{RecordsAre}
-use Rattle.bd_records.proofs.{Lists.{both_filters, none_left}, Given.{settled_kept}}
+use Rattle.bd_records.proofs.{Lists.{both_filters, none_left}, Given.{settled_kept}, Emptied.{lies_unasked}}
 use Rattle.bd_records.proofs.records.Records.remove_with_process.Goals as goal
 
 neither : (a b : Bool) → (not a && not b) ≡ not (a || b)
@@ -41,3 +41,8 @@ returns-clause-gone c = λ objects l h.
     let p = c.args.p in
     let left = c.remove_each_in_window.ensures.stands objects _ (c.drop_each_asked.ensures.stands objects l h) in
     c.close_window.ensures.gone _ left.held (none_left (λ r. is_in_window p r.holder) (filter (λ r. not (is_asked_by p r.holder)) l))
+
+pub returns-clause-buffers : goal.returns-clause-buffers
+returns-clause-buffers c = λ objects l b h lies.
+    let unasked = c.drop_each_asked.ensures.stands objects l h in
+    c.close_window.ensures.lists b ∙ c.remove_each_in_window.ensures.gone objects _ b unasked (lies_unasked c.args.p b l lies)

@@ -1,6 +1,9 @@
 use Rattle.std.proofs.Common.{Some}
 use Rattle.bd_space.specs.Todo.{work_on}
+use Rattle.bd_space.specs.declared.space.Work.{Work}
+use Rattle.bd_step.specs.Exits.{gathers_work}
 use Rattle.bd_step.proofs.Gathering.{besides_next, more_work, grows_then}
+use Rattle.bd_step.proofs.Gathered.{on_err, any_here, any_later}
 use Rattle.bd_step.proofs.tables.Tables.touch_list.Goals as goal
 
 pub loop-work-preserved : goal.loop-work-preserved
@@ -9,4 +12,9 @@ loop-work-preserved c = record {
       besides_next _ _ (work_on s.todo (Some c.args.list)) _ _ c.in-Some.work c.in-Some.ensures.steps (c.loop-work.invariant.has s h)
       (λ w k. more_work _ _ s w.kind (c.in_ok-touch_work.ensures.grows s h) k) (c.in_ok-touch_work.ensures.has s h);
   grows = λ s h. grows_then _ _ _ (c.loop-work.invariant.grows s h) (c.in_ok-touch_work.ensures.grows s h);
+  gathers = λ s h any. c.loop-work.invariant.gathers s h (any_later (λ (w : Work). gathers_work s w.kind) _ _ c.in-Some.work c.in-Some.ensures.steps any);
 }
+
+pub returns-in_err-touch_work-clause-grown : goal.returns-in_err-touch_work-clause-grown
+returns-in_err-touch_work-clause-grown c = on_err c.from_residual.result
+    (λ s h. c.loop-work.invariant.gathers s h (any_here (λ (w : Work). gathers_work s w.kind) _ _ c.in-Some.work c.in-Some.ensures.steps (c.in_err-touch_work.ensures.grown s h)))

@@ -1,5 +1,9 @@
-use Rattle.std.proofs.Common.{refl}
+use Rattle.std.proofs.Common.{refl, arith}
+use Rattle.bd_space.specs.declared.space.Frame.{Frame}
+use Rattle.bd_space.specs.Frames.{serves}
+use Rattle.bd_laws.proofs.Leaving.{or_left, or_right}
 use Rattle.bd_step.proofs.Gathering.{frames_then, served_gathered}
+use Rattle.bd_step.proofs.Gathered.{on_err, any_kept}
 use Rattle.bd_step.proofs.tables.Tables.touch_thread.Goals as goal
 
 pub returns-clause-has : goal.returns-clause-has
@@ -10,3 +14,10 @@ returns-clause-has c = λ s h. record {
 
 pub returns-clause-grows : goal.returns-clause-grows
 returns-clause-grows c = λ s h. frames_then _ _ _ _ refl (c.in_ok-served.ensures.served s h.calls_stand) (c.in_ok-touch_list.ensures.grows s h)
+
+pub returns-in_err-served-clause-grown : goal.returns-in_err-served-clause-grown
+returns-in_err-served-clause-grown c = on_err c.from_residual.result (λ s h.
+    or_left _ _ (any_kept (λ (f : Frame). serves c.args.seat f.server) s.frames (let few = c.in_err-served.ensures.grown s h.calls_stand in let fits = c.args.exit.now.frames.ok.1 in omega (arith, few, fits))))
+
+pub returns-in_err-touch_list-clause-grown : goal.returns-in_err-touch_list-clause-grown
+returns-in_err-touch_list-clause-grown c = on_err c.from_residual-in_err-touch_list.result (λ s h. or_right _ _ (c.in_err-touch_list.ensures.grown s h))

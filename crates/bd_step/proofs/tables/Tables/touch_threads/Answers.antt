@@ -1,5 +1,7 @@
 use Rattle.std.proofs.Common.{arith}
 use Rattle.std.proofs.lemmas.List.{drop_all}
+use Rattle.bd_step.specs.Exits.{gathers_thread}
+use Rattle.bd_step.proofs.Gathered.{on_err, any_get}
 use Rattle.bd_step.proofs.Gathering.{until_none, until_at, until_all, grows_refl, grows_then, more_thread}
 use Rattle.bd_step.proofs.tables.Tables.touch_threads.Goals as goal
 
@@ -18,3 +20,7 @@ loop-seat-preserved c = record {
 
 pub returns-clause-has : goal.returns-clause-has
 returns-clause-has c = λ s h. until_all _ c.args.seats.now c.loop-seat.seat-index (drop_all c.loop-seat.seat-index c.args.seats.now (omega arith)) (c.loop-seat.invariant.has s h)
+
+pub returns-in_err-touch_thread-clause-grown : goal.returns-in_err-touch_thread-clause-grown
+returns-in_err-touch_thread-clause-grown c = on_err c.from_residual.result
+    (λ s h. any_get (gathers_thread s) c.args.seats.now c.loop-seat.seat-index 0 c.loop-seat-test.true (c.in_err-touch_thread.ensures.grown s h))

@@ -3,7 +3,7 @@ use Rattle.slab.specs.Slab.{get}
 use Rattle.bd_ways.specs.Words.{Identity}
 use Rattle.bd_records.specs.declared.row.ObjectRow.{ObjectRow}
 use Rattle.bd_records.proofs.Naming.{shown_is}
-use Rattle.bd_records.proofs.objects.Objects.row_near.Goals as goal
+use Rattle.bd_records.proofs.objects.Objects.row_of.Goals as goal
 
 abbrev id : ObjectRow → Identity
 id r = r.object.id
@@ -12,4 +12,4 @@ pub returns-clause-id : goal.returns-clause-id
 returns-clause-id c =
     let t = c.args.self.now in
     subst (λ v. IfSome v (λ w. w.object.id ≡ c.args.o)) (sym c.row_in.ensures)
-    (shown_is id (get t.rows c.in_ok-k.k) c.args.o (t.leads c.args.o c.in_ok-k.k (sym c.slot_near.ensures ∙ c.in_ok-k.was)))
+    (shown_is id (get t.rows c.in_ok-k.k) c.args.o (t.leads c.args.o c.in_ok-k.k (sym c.slot_of.ensures ∙ c.in_ok-k.was)))

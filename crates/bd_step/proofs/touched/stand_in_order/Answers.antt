@@ -1,0 +1,18 @@
+use Rattle.std.proofs.Common.{rules, ◌≡◌, List, Bool, true, false, not, refl}
+use Rattle.std.specs.List.{IsAllAdjacentAnswer}
+use Rattle.std.proofs.lemmas.List.Sorted.{answers_always}
+use Rattle.bd_ways.specs.Words.{Identity}
+use Rattle.bd_laws.specs.{Lists.{Pairs}, Objects.{NotLater, is_earlier}}
+use Rattle.bd_laws.proofs.Earlier.{sorted_in_order}
+use Rattle.bd_step.proofs.touched.stand_in_order.Goals as goal
+
+unlike : (b : Bool) → true ≡ not b → b ≡ false
+unlike true h = absurd (cc)
+unlike false h = refl
+
+ordered : (os : List Identity) (r : Bool) → IsAllAdjacentAnswer (λ x y b. b ≡ not (is_earlier y x)) os r → r ≡ true → Pairs NotLater os
+ordered os true pairs is = sorted_in_order os (λ k d low lt. unlike _ (pairs k d lt))
+ordered os false pairs is = absurd (cc)
+
+pub returns : goal.returns
+returns c = ordered c.args.objects.now _ (c.is_sorted_by.ensures.cases (λ x y. not (is_earlier y x)) (answers_always _ _ _ (λ f a r g called. search rules)))
