@@ -15,7 +15,7 @@ use std::marker::Model;
 /// Contracts see the buffer itself.
 #[derive(Drop)]
 pub struct Lent<'a> {
-    record: &'a Record,
+    noted: &'a Record,
     bytes: &'a [u8],
     offsets: &'a [u8],
 }
@@ -27,19 +27,19 @@ impl<'a> Model for Lent<'a> {
 
     ghost Value = { Buffer };
 
-    ghost view = { λ l. with_bytes l.record.now l.bytes.now l.offsets.now };
+    ghost view = { λ l. with_bytes l.noted.now l.bytes.now l.offsets.now };
 
-    ghost invariant = { λ l. IsSized l.record.now l.bytes.now l.offsets.now };
+    ghost invariant = { λ l. IsSized l.noted.now l.bytes.now l.offsets.now };
 }
 
 impl<'a> Lent<'a> {
     /// A buffer of this record with these bytes.
-    pub fn new(record: &'a Record, bytes: &'a [u8], offsets: &'a [u8]) -> Lent<'a>
-        requires { spec.IsSized record.now bytes.now offsets.now }
-        ensures { result ≡ spec.with_bytes record.now bytes.now offsets.now }
+    pub fn new(noted: &'a Record, bytes: &'a [u8], offsets: &'a [u8]) -> Lent<'a>
+        requires { spec.IsSized noted.now bytes.now offsets.now }
+        ensures { result ≡ spec.with_bytes noted.now bytes.now offsets.now }
     {
         Lent {
-            record,
+            noted,
             bytes,
             offsets,
         }
@@ -49,77 +49,77 @@ impl<'a> Lent<'a> {
     pub fn made(&self) -> u64
         ensures { result ≡ self.now.made }
     {
-        self.record.made
+        self.noted.made
     }
 
     /// The process whose window it lies in.
     pub fn receiver(&self) -> u64
         ensures { result ≡ self.now.receiver }
     {
-        self.record.receiver
+        self.noted.receiver
     }
 
     /// The process that sent it, live or not.
     pub fn sender(&self) -> u64
         ensures { result ≡ self.now.sender }
     {
-        self.record.sender
+        self.noted.sender
     }
 
     /// Where it begins in the window.
     pub fn start(&self) -> u32
         ensures { result ≡ self.now.start }
     {
-        self.record.start
+        self.noted.start
     }
 
     /// How much of the window it takes.
     pub fn size(&self) -> u32
         ensures { result ≡ self.now.size }
     {
-        self.record.size
+        self.noted.size
     }
 
     /// Whether it is a one-way call's.
     pub fn is_one_way(&self) -> bool
         ensures { result ≡ self.now.one_way }
     {
-        self.record.one_way
+        self.noted.one_way
     }
 
     /// Whether it was handed out.
     pub fn is_handed(&self) -> bool
         ensures { result ≡ self.now.handed }
     {
-        self.record.handed
+        self.noted.handed
     }
 
     /// The object that a transaction goes to.
     pub fn target(&self) -> Option<Identity>
         ensures { result ≡ self.now.target }
     {
-        self.record.target
+        self.noted.target
     }
 
     /// The code, as written.
     pub fn code(&self) -> u32
         ensures { result ≡ self.now.code }
     {
-        self.record.code
+        self.noted.code
     }
 
     /// The flags, as written.
     pub fn flags(&self) -> TransactionFlags
         ensures { result ≡ self.now.flags }
     {
-        self.record.flags
+        self.noted.flags
     }
 
     /// The sender's effective user id.
     pub fn euid(&self) -> u32
         ensures { result ≡ self.now.euid }
     {
-        self.record.euid
+        self.noted.euid
     }
 
     /// The data, as the receiver is to see it.
@@ -141,28 +141,28 @@ impl<'a> Lent<'a> {
         ensures record { self.now ≡ spec.with_bytes result self.now.bytes self.now.offsets }
         ensures sized { spec.IsSized result self.now.bytes self.now.offsets }
     {
-        *self.record
+        *self.noted
     }
 }
 
 // Where the offsets of a buffer stand.
-fn offsets_at(record: &Record) -> usize
-    ensures { result ≡ record.now.start + round_up record.now.data_size }
+fn offsets_at(noted: &Record) -> usize
+    ensures { result ≡ noted.now.start + round_up noted.now.data_size }
 {
-    record.start as usize + (record.data_size as usize).next_multiple_of(8)
+    noted.start as usize + (noted.data_size as usize).next_multiple_of(8)
 }
 
 /// The buffer of a record, lent from memory.
-pub(crate) fn lent_from<'a>(memory: &'a Memory, record: &'a Record) -> Lent<'a>
-    requires { spec.IsInMemory memory.now record.now }
-    ensures { result ≡ spec.standing memory.now record.now }
+pub(crate) fn lent_from<'a>(memory: &'a Memory, noted: &'a Record) -> Lent<'a>
+    requires { spec.IsInMemory memory.now noted.now }
+    ensures { result ≡ spec.standing memory.now noted.now }
 {
-    let at = record.start as usize;
-    let bytes = memory.slice(at, at + record.data_size as usize);
-    let at = offsets_at(record);
-    let offsets = memory.slice(at, at + record.offsets_size as usize);
+    let at = noted.start as usize;
+    let bytes = memory.slice(at, at + noted.data_size as usize);
+    let at = offsets_at(noted);
+    let offsets = memory.slice(at, at + noted.offsets_size as usize);
     Lent {
-        record,
+        noted,
         bytes,
         offsets,
     }

@@ -4,7 +4,7 @@
 ghost use Rattle.bd_calls.specs.Marked.{AreMarked};
 
 use crate::bits::with_bit;
-use crate::seen::{Seen, is_of, look_at, may_read};
+use crate::seen::{Seen, is_member, look_at, may_read};
 use bd_space::{TodoList, Work};
 use bd_threads::ThreadTable;
 use bd_todo::WorkTable;
@@ -96,8 +96,8 @@ impl ReadySeats {
         ensures { self.new.seats.items ≡ map (option_map (spec.with_shared process has)) self.old.seats.items }
     {
         for at in 0..self.seats.len() {
-            if let Some(seen) = self.seats[at] {
-                if is_of(seen.thread, process) {
+            if is_member(&self.seats[at], process) {
+                if let Some(seen) = self.seats[at] {
                     self.keep(
                         at,
                         Some(Seen {
@@ -140,13 +140,21 @@ impl ReadySeats {
     }
 
     /// Looks at those seats of which nothing is kept.
+    #[inline(always)]
     pub(crate) fn refresh(&mut self, threads: &ThreadTable, todo: &WorkTable)
         ensures { (ts : List declared.Thread) (ws : List works.Work) → listed threads.now ≡ ts → todo_table.WorksAre todo.now ws
             → spec.AreSeen self.old ts (todos.has_work_in ws) → spec.AreSeen self.new ts (todos.has_work_in ws) }
     {
-        if self.whole {
-            return;
+        if !self.whole {
+            self.look(threads, todo);
         }
+    }
+
+    #[inline(never)]
+    fn look(&mut self, threads: &ThreadTable, todo: &WorkTable)
+        ensures { (ts : List declared.Thread) (ws : List works.Work) → listed threads.now ≡ ts → todo_table.WorksAre todo.now ws
+            → spec.AreSeen self.old ts (todos.has_work_in ws) → spec.AreSeen self.new ts (todos.has_work_in ws) }
+    {
         let seats = self.seats.len().min(MOST_SEATS as usize) as u32;
         for seat in 0..seats {
             let at = seat as usize;

@@ -42,12 +42,18 @@ pub(crate) fn look_at(threads: &ThreadTable, todo: &WorkTable, seat: u32) -> See
     }
 }
 
-/// Whether it is a thread of this process.
+/// Whether what is kept is of a thread of this process. Lent, since it is asked of each seat.
 #[inline(always)]
-pub(crate) fn is_of(thread: Option<Thread>, process: u64) -> bool
-    ensures { result ≡ is_some_and thread (λ t. t.process == process) }
+pub(crate) fn is_member(kept: &Option<Seen>, process: u64) -> bool
+    ensures { result ≡ spec.is_member process kept.now }
 {
-    thread.is_some_and(|t| t.process == process)
+    match kept {
+        Some(seen) => match &seen.thread {
+            Some(thread) => thread.process == process,
+            None => false,
+        },
+        None => false,
+    }
 }
 
 /// Whether the seat may have something to read, by what is kept of it.

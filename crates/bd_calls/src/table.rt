@@ -181,6 +181,7 @@ impl CallTable {
     }
 
     /// Looks anew at the seats of which a change may have told otherwise than is kept.
+    #[inline(always)]
     pub fn refresh_ready(&mut self)
         ensures stands { Makes (StandsFor self.old) (StandsFor self.new) (λ s. s) }
         ensures uses { UsesNothing self.old self.new }

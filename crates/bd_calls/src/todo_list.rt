@@ -1,7 +1,7 @@
 //! Todo lists: which work items are still to be read, and by whom.
 #![tactic(auto, unfolding(bd_space::specs::Todo::owe, bd_space::specs::Todo::has_unread, bd_space::specs::Todo::list_to_read, crate::specs::Room::rooms, crate::specs::Told::Recalls, crate::specs::Told::HasRoomToTell))]
 
-ghost use Rattle.std.specs.Prelude.{Bool, List, ◌≡◌, ◌==◌, ◌&&◌, ◌-◌, ◌^◌, ◌<◌, ◌≤◌, not, filter, Option, Some, None};
+ghost use Rattle.std.specs.Prelude.{ℕ, Bool, List, ◌≡◌, ◌==◌, ◌&&◌, ◌-◌, ◌^◌, ◌<◌, ◌≤◌, not, filter, Option, Some, None};
 ghost use Rattle.std.specs.{List.{slice_get}, Option.{is_none}};
 ghost use Rattle.bd_keys.specs.Tables.{AnswersBy};
 ghost use Rattle.bd_uapi.specs.Limits.{most_seats};
@@ -76,24 +76,27 @@ impl CallTable {
         self.todo.first_reply(list)
     }
 
-    // What is kept of the seat, or what is seen of it now.
-    fn seen_at(&self, seat: u32) -> Seen
-        ensures { (s : Space) → StandsFor self.now s → IsSeen s.threads (spec.has_work_in s.todo) seat result }
+    // Whether the thread of a seat of which this was seen has anything to read. Lent, since it is asked of each marked seat after
+    // each step.
+    #[inline(always)]
+    fn reads_any(&self, seen: &Seen) -> bool
+        ensures { (s : Space) (seat : ℕ) → StandsFor self.now s → IsSeen s.threads (spec.has_work_in s.todo) seat seen.now
+            → result ≡ is_ready s seat }
     {
-        match self.ready.seats.get(seat as usize) {
-            Some(Some(seen)) => *seen,
-            _ => look_at(&self.threads, &self.todo, seat),
+        match &seen.thread {
+            Some(thread) => seen.own || (seen.shared && is_idle(&self.frames, thread)),
+            None => false,
         }
     }
 
     /// Whether a seat's thread has anything to read.
+    #[inline(always)]
     pub fn is_ready(&self, seat: u32) -> bool
         ensures { Tells (StandsFor self.now) result (λ s. is_ready s seat) }
     {
-        let seen = self.seen_at(seat);
-        match seen.thread {
-            Some(thread) => seen.own || (seen.shared && is_idle(&self.frames, &thread)),
-            None => false,
+        match self.ready.seats.get(seat as usize) {
+            Some(Some(seen)) => self.reads_any(seen),
+            _ => self.reads_any(&look_at(&self.threads, &self.todo, seat)),
         }
     }
 

@@ -7,29 +7,29 @@ use Rattle.bd_space.specs.Histories.{History, HasPlace, BeginsWith, history_of}
 use Rattle.bd_space.specs.Runs.{AllBy, HasRun, IsRun, HasEntry, IsAtLimit}
 use Rattle.bd_driver.specs.Views.{places, view_of}
 use Rattle.std.specs.Prelude.{Result, Ok, Err, MatchResult, IfOk, IfErr, OnErr}
-use Rattle.bd_engine.specs.declared.run.Ran.{Ran}
+use Rattle.bd_engine.specs.declared.run.Span.{Span}
 use Rattle.bd_engine.specs.StepError.{StepError}
 use Rattle.bd_engine.specs.StepError.TheVariants.{NoMemory as Memory, HistoryFull as Full}
 use Rattle.bd_engine.specs.Refusals.{FullOnly, MemoryOnly}
 use Rattle.bd_driver.specs.declared.view.View.{View}
-use Rattle.bd_driver.specs.declared.outcome.Outcome.{Outcome}
 use Rattle.bd_driver.specs.declared.outcome.Outcome.TheVariants.{Done, Back}
+use Rattle.bd_driver.specs.declared.outcome.Why.{Why}
 use Rattle.bd_driver.specs.declared.slot.Slot.{Slot}
-use Rattle.bd_driver.specs.Reasons.{reason_of}
+use Rattle.bd_driver.specs.Reasons.{outcome_of, reason_of}
 use Rattle.bd_driver.specs.Steps.{Hands, took_at, published_at, put_at}
 use Rattle.bd_driver.specs.Driver.{Takes, Follows, Gives, IsWhy, PageSteps, Calls}
 use Rattle.bd_driver.proofs.Views.{starts_longer}
 
 -- what an engine has run that was taken is of this seat, and comes after what the seat has then seen
 pub run_follows : (v : View) (number : ℕ) (me : number ≡ v.who) (xs : List (ℕ × Slot)) (m : Hands) (e0 e1 : History) (request : Request) → Takes v xs m (Some e0)
-    → (ran : Result Ran StepError) → IfOk ran (λ x. HasRun e0 e1 number request x.answer x.from x.to) → OnErr ran (e1 ≡ e0) → Follows (view_of m.0) e1
-run_follows v number me xs m e0 e1 request t (Ok x) h same = subst (λ w. Follows w e1) (sym (ap view_of t.view)) (record {
+    → (told : Answer) (ran : Result Span StepError) → IfOk ran (λ x. HasRun e0 e1 number request told x.from x.to) → OnErr ran (e1 ≡ e0) → Follows (view_of m.0) e1
+run_follows v number me xs m e0 e1 request t told (Ok x) h same = subst (λ w. Follows w e1) (sym (ap view_of t.view)) (record {
   seats = h.seats ∙ ap (λ (e : History). e.seats) t.engine.1;
   run = h.run;
   grown = h.grown ∙ ap (λ (e : History). e.entries ++ h.run) t.engine.1;
   by_seat = subst (λ z. AllBy z h.run) me h.by_seat;
 })
-run_follows v number me xs m e0 e1 request t (Err why) h same = subst (λ w. Follows w e1) (sym (ap view_of t.view)) (record {
+run_follows v number me xs m e0 e1 request t told (Err why) h same = subst (λ w. Follows w e1) (sym (ap view_of t.view)) (record {
   seats = ap (λ (e : History). e.seats) (same ∙ t.engine.1);
   run = [];
   grown = ap (λ (e : History). e.entries) (same ∙ t.engine.1) ∙ sym (append-nil t.entries);
@@ -110,7 +110,10 @@ module _ (v : View) (number : ℕ) (me : number ≡ v.who) (m m' : Hands) (e0 e1
   is_why Full same full place some = (t.engine.0, then_seen (λ h n. IsAtLimit h n request) same full, then_seen (λ h n. HasEntry h n request) same some)
 
   -- a call that ran, or was refused
-  pub call_ends : (ran : Result Ran StepError) (o : Outcome) → MatchResult ran (λ r. o ≡ Done r.answer r.from r.to) (λ why. o ≡ Back request (reason_of why)) → IfOk ran (λ r. HasRun e0 e1 number request r.answer r.from r.to)
-      → OnErr ran (e1 ≡ e0) → IfErr ran (λ why. FullOnly why (IsAtLimit e0 number request)) → IfErr ran (λ why. MemoryOnly why (HasPlace e0)) → IfErr ran (λ _. HasEntry e0 number request) → Calls v (view_of m'.0) request o
-  call_ends (Ok r) o is run same full place some = subst (Calls v (view_of m'.0) request) (sym is) (done_calls r.answer r.from r.to run)
-  call_ends (Err why) o is run same full place some = subst (Calls v (view_of m'.0) request) (sym is) (back_calls why same (is_why why same full place some))
+  pub call_ends : (told : Answer) (ran : Result Span StepError) (said : Result Span Why) → MatchResult ran (λ span. said ≡ Ok span) (λ why. said ≡ Err (reason_of why)) → IfOk ran (λ span. HasRun e0 e1 number request told span.from span.to)
+      → OnErr ran (e1 ≡ e0) → IfErr ran (λ why. FullOnly why (IsAtLimit e0 number request)) → IfErr ran (λ why. MemoryOnly why (HasPlace e0)) → IfErr ran (λ _. HasEntry e0 number request)
+      → Calls v (view_of m'.0) request (outcome_of request told said)
+  call_ends told (Ok span) said is run same full place some =
+      subst (λ (x : Result Span Why). Calls v (view_of m'.0) request (outcome_of request told x)) (sym is) (done_calls told span.from span.to run)
+  call_ends told (Err why) said is run same full place some =
+      subst (λ (x : Result Span Why). Calls v (view_of m'.0) request (outcome_of request told x)) (sym is) (back_calls why same (is_why why same full place some))

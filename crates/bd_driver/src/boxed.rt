@@ -3,13 +3,14 @@
 ghost use Rattle.std.specs.Prelude.{◌≡◌, ◌<◌, [], IfOk, IfErr, OnErr, MatchResult};
 ghost use Rattle.bd_uapi.specs.Limits.{IsSeats};
 ghost use Rattle.bd_space.specs.{Histories.{HasPlace}, Runs.{HasRun, HasEntry, IsAtLimit}};
+ghost use Rattle.bd_space.specs.declared.step.Request.TheVariants.{Write};
 ghost use Rattle.bd_engine.specs.Refusals.{FullOnly, MemoryOnly};
 ghost use Rattle.bd_driver.specs.{Reasons.{reason_of}, declared.outcome.Outcome.TheVariants.{Done, Back}};
 
 use crate::outcome::Outcome;
 use crate::refusals::outcome_of;
-use bd_engine::{Engine, Ran, StepError};
-use bd_space::Request;
+use bd_engine::{Engine, Ran, Span, StepError};
+use bd_space::{Answer, Request};
 use std::alloc::{AllocError, Global};
 use std::marker::Model;
 use std::mem;
@@ -57,6 +58,43 @@ impl BoxedEngine {
         ensures some { IfErr result (λ _. HasEntry self.old seat request.now) }
     {
         self.engine.run(seat, request)
+    }
+
+    /// The engine's run of a request, whose answer it writes.
+    #[inline(always)]
+    pub(crate) fn run_in(
+        &mut self,
+        seat: u32,
+        request: &Request,
+        told: &mut Answer,
+    ) -> Result<Span, StepError>
+        requires { seat < self.old.seats }
+        ensures ok { IfOk result (λ span. HasRun self.old self.new seat request.now told.new span.from span.to) }
+        ensures err { OnErr result (self.new ≡ self.old) }
+        ensures full { IfErr result (λ why. FullOnly why (IsAtLimit self.old seat request.now)) }
+        ensures memory { IfErr result (λ why. MemoryOnly why (HasPlace self.old)) }
+        ensures some { IfErr result (λ _. HasEntry self.old seat request.now) }
+    {
+        self.engine.run_in(seat, request, told)
+    }
+
+    /// The engine's run of a write whose bytes are lent.
+    #[inline(always)]
+    pub(crate) fn write(
+        &mut self,
+        seat: u32,
+        stream: &[u8],
+        area: &[u8],
+        told: &mut Answer,
+    ) -> Result<Span, StepError>
+        requires { seat < self.old.seats }
+        ensures ok { IfOk result (λ span. HasRun self.old self.new seat (Write stream.now area.now) told.new span.from span.to) }
+        ensures err { OnErr result (self.new ≡ self.old) }
+        ensures full { IfErr result (λ why. FullOnly why (IsAtLimit self.old seat (Write stream.now area.now))) }
+        ensures memory { IfErr result (λ why. MemoryOnly why (HasPlace self.old)) }
+        ensures some { IfErr result (λ _. HasEntry self.old seat (Write stream.now area.now)) }
+    {
+        self.engine.write(seat, stream, area, told)
     }
 
     pub(crate) fn open(self) -> Engine

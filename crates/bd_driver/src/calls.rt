@@ -1,7 +1,8 @@
 //! Calls: a seat takes the engine, runs its request, publishes, and puts the engine home.
 ghost use Rattle.std.specs.Prelude.{◌≡◌, ◌<◌, [], ◌∷◌, true, false};
 ghost use Rattle.atomic_table.specs.Table.{rest};
-ghost use Rattle.bd_driver.specs.{Views.{view_of}, Rest.{is_waiting}, declared.view.Handover.TheVariants.{Open}};
+ghost use Rattle.bd_space.specs.declared.step.Request.TheVariants.{Write};
+ghost use Rattle.bd_driver.specs.{Views.{view_of}, Rest.{is_waiting}, declared.view.Handover.TheVariants.{Open}, Reasons.{outcome_of}};
 ghost use Rattle.bd_driver.specs.{declared.view.Picking.TheVariants.{Nothing}, declared.slot.Slot.TheVariants.{Empty}};
 
 use crate::boxed::BoxedEngine;
@@ -9,11 +10,12 @@ use crate::driver::Driver;
 use crate::outcome::{Outcome, Why};
 use crate::page::{Page, page_while_taken};
 use crate::plays::{Look, Publish, Put, Take};
-use crate::refusals::outcome_of;
+use crate::refusals::{reasoned, told_as};
 use crate::seat::{Seat, TableSeat};
 use crate::slot::Slot;
 use crate::states::{PAGE, TAKEN};
-use bd_space::Request;
+use bd_engine::Span;
+use bd_space::{Answer, Request};
 
 impl Driver {
     ghost use Rattle.bd_driver.specs.Driver.{LooksOnce, Takes, Follows, Gives, Calls};
@@ -38,15 +40,51 @@ impl Driver {
         ensures same { seat.new.table ≡ seat.old.table }
         ensures calls { Calls seat.old.view seat.new.view request result }
     {
+        let mut answer = Answer::Set;
+        let ran = self.run(seat, &request, &mut answer);
+        told_as(ran, answer, request)
+    }
+
+    /// Runs a request that is lent, as `call` does: where it was run, `told` is what it was answered, and its steps stand at those places.
+    /// Of what is written where it wasn't run nothing is known.
+    #[inline(always)]
+    pub fn run(&self, seat: &mut Seat, request: &Request, told: &mut Answer) -> Result<Span, Why>
+        requires table { seat.old.table ≡ self.now.table }
+        requires free { is_waiting seat.old.view.handover ≡ false }
+        ensures same { seat.new.table ≡ seat.old.table }
+        ensures calls { Calls seat.old.view seat.new.view request.now (outcome_of request.now told.new result) }
+    {
         let Some(mut engine) = self.take(&mut seat.table_seat) else {
-            return Outcome::Back {
-                request,
-                why: Why::Taken,
-            };
+            return Err(Why::Taken);
         };
-        let ran = engine.run(seat.number, &request);
+        let ran = engine.run_in(seat.number, request, told);
         self.give(&mut seat.table_seat, engine);
-        outcome_of(ran, request)
+        reasoned(ran)
+    }
+
+    /// Runs a write as `run` does, whose bytes are lent.
+    #[inline(always)]
+    pub fn write(
+        &self,
+        seat: &mut Seat,
+        stream: &[u8],
+        area: &[u8],
+        told: &mut Answer,
+    ) -> Result<Span, Why>
+        requires table { seat.old.table ≡ self.now.table }
+        requires free { is_waiting seat.old.view.handover ≡ false }
+        ensures same { seat.new.table ≡ seat.old.table }
+        ensures calls { Calls seat.old.view seat.new.view (Write stream.now area.now)
+            (outcome_of (Write stream.now area.now) told.new result) }
+    {
+        match self.take(&mut seat.table_seat) {
+            None => Err(Why::Taken),
+            Some(mut engine) => {
+                let written = engine.write(seat.number, stream, area, told);
+                self.give(&mut seat.table_seat, engine);
+                reasoned(written)
+            }
+        }
     }
 
     /// The page as one load finds it, which is made in this call (`looks`: `only`, `is_found`). Its stamp and ready
@@ -61,6 +99,7 @@ impl Driver {
     }
 
     // The engine, where the take finds bit 0 clear.
+    #[inline(always)]
     pub(crate) fn take(&self, table_seat: &mut TableSeat) -> Option<BoxedEngine>
         requires table { table_seat.old.table_id ≡ self.now.table }
         requires one { table_seat.old.me.0 ≡ view_of table_seat.old.me.0 ∷ [] }

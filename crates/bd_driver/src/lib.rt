@@ -21,6 +21,7 @@ mod states;
 mod tests;
 mod view;
 
+pub use bd_engine::Span;
 pub use desk::Desk;
 pub use driver::Driver;
 pub use outcome::{Outcome, Served, Why};

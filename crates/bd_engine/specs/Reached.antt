@@ -24,6 +24,10 @@ KeepsTold old new = (told : TodoList → Bool) → Recalls old told → Recalls 
 abbrev pub knows_all : Live → Bool
 knows_all l = calls.knows_all l.tables.value.calls
 
+-- they are known, and will be where so many more lists are filled or emptied
+abbrev pub HasRoomToTell : Live → ℕ → Type 0
+HasRoomToTell l lists = calls.HasRoomToTell l.tables.value.calls lists
+
 -- these are exactly the lists of which it was told otherwise than it is in this space
 abbrev pub AreReached : List TodoList → (TodoList → Bool) → Space → Type 0
 AreReached reached told s = (list : TodoList) → is_among reached list ≡ differs (told list) (has_work s list)

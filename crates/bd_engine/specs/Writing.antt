@@ -1,5 +1,5 @@
 -- The run of a request that is one step, or of a write: how far it has come, and how it goes on.
-use Rattle.std.specs.Prelude.{ℕ, ◌+◌, ◌≡◌, ◌≤◌, ◌<◌, ◌==◌, List, [], ◌∷◌, ◌++◌, length, drop, Option, Some, None, Result, Ok, Err, if◌then◌else◌}
+use Rattle.std.specs.Prelude.{ℕ, Bool, true, false, ◌+◌, ◌≡◌, ◌≤◌, ◌<◌, ◌==◌, List, [], ◌∷◌, ◌++◌, length, drop, Option, Some, None, Result, Ok, Err, if◌then◌else◌}
 use Rattle.bd_ways.specs.Words.{Command, Note, Fault, Step, StepAnswer, Entry, Answer, Request, Space}
 use Rattle.bd_uapi.specs.declared.fault.Fault.TheVariants as fault
 use Rattle.bd_codec.specs.{Reading.{command_at}, Spelling.{command_bytes, IsCommand}}
@@ -50,6 +50,11 @@ course_or p (Ok g) = Ok (course_of p g)
 course_or p (Err why) = Err why
 
 -- ---- what is answered
+
+-- the answer is to a write, and has no notes
+abbrev pub is_unnoted : Answer → Bool
+is_unnoted (Wrote consumed [] stop) = true
+is_unnoted _ = false
 
 pub record IsSame (old new : Progress) : Type 0 where
   pub consumed : new.consumed ≡ old.consumed

@@ -5,14 +5,14 @@ ghost use Rattle.bd_uapi.specs.Limits.{most_seats, IsSeats};
 ghost use Rattle.bd_space.specs.Histories as histories;
 ghost use Rattle.bd_space.specs.Histories.{HasPlace};
 ghost use Rattle.bd_space.specs.Steps as steps;
-ghost use Rattle.bd_space.specs.Runs.{HasRun, HasEntry, IsAtLimit};
+ghost use Rattle.bd_space.specs.{Runs.{HasRun, HasEntry, IsAtLimit}, declared.step.Request.TheVariants.{Write}};
 ghost use Rattle.bd_engine.specs.Refusals.{FullOnly, MemoryOnly, IsSeatFault};
 ghost use Rattle.bd_step.specs.declared.step_error.StepError.TheVariants.{NoMemory};
 
-use crate::run::Ran;
+use crate::run::{Ran, Span};
 use crate::tables::HasTables;
 use crate::wide::WideEngine;
-use bd_space::{Request, Step, StepAnswer};
+use bd_space::{Answer, Request, Step, StepAnswer};
 use bd_spelling::Record;
 use bd_step::{StepError, Tables};
 use bd_uapi::{Fault, MOST_SEATS};
@@ -87,14 +87,6 @@ impl Engine {
         ensures { result.now ≡ self.now }
     {
         &self.wide
-    }
-
-    /// The engine of wide records that it is.
-    pub fn into_wide(self) -> WideEngine
-        ensures { result ≡ self }
-    {
-        let Engine { wide } = self;
-        wide
     }
 
     /// How many seats there are, 1 to 31.
@@ -173,5 +165,43 @@ impl Engine {
         ensures some { IfErr result (λ _. HasEntry self.old seat request.now) }
     {
         self.wide.run(seat, request)
+    }
+
+    /// Runs a request as `run` does, writes to `told` what it is answered, and says where its steps stand. Of what is written by a run
+    /// that is refused nothing is known.
+    #[inline(always)]
+    pub fn run_in(
+        &mut self,
+        seat: u32,
+        request: &Request,
+        told: &mut Answer,
+    ) -> Result<Span, StepError>
+        requires { seat < self.old.seats }
+        ensures ok { IfOk result (λ span. HasRun self.old self.new seat request.now told.new span.from span.to) }
+        ensures err { OnErr result (self.new ≡ self.old) }
+        ensures full { IfErr result (λ why. FullOnly why (IsAtLimit self.old seat request.now)) }
+        ensures memory { IfErr result (λ why. MemoryOnly why (HasPlace self.old)) }
+        ensures some { IfErr result (λ _. HasEntry self.old seat request.now) }
+    {
+        self.wide.run_in(seat, request, told)
+    }
+
+    /// Runs a write as `run_in` does, whose bytes are lent.
+    #[inline(always)]
+    pub fn write(
+        &mut self,
+        seat: u32,
+        stream: &[u8],
+        area: &[u8],
+        told: &mut Answer,
+    ) -> Result<Span, StepError>
+        requires { seat < self.old.seats }
+        ensures ok { IfOk result (λ span. HasRun self.old self.new seat (Write stream.now area.now) told.new span.from span.to) }
+        ensures err { OnErr result (self.new ≡ self.old) }
+        ensures full { IfErr result (λ why. FullOnly why (IsAtLimit self.old seat (Write stream.now area.now))) }
+        ensures memory { IfErr result (λ why. MemoryOnly why (HasPlace self.old)) }
+        ensures some { IfErr result (λ _. HasEntry self.old seat (Write stream.now area.now)) }
+    {
+        self.wide.write(seat, stream, area, told)
     }
 }

@@ -21,6 +21,7 @@ pub(crate) struct Entering {
 impl Entering {
     // Makes room for the entry of a step which has an answer without blocks. These bytes spell its command. Errors: memory was
     // refused, or no journal spells the step.
+    #[inline(always)]
     pub fn begin(&mut self, step: &Step, command: &[u8]) -> Result<(), AllocError>
         requires { SpellsCommand step.now command.now }
         ensures entries { self.new.log.entries ≡ self.old.log.entries }

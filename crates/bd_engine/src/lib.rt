@@ -23,5 +23,5 @@ pub use live::Live;
 pub use looks::Looks;
 pub use narrow::{BufferLook, ShortObjects};
 pub use reached::these_name_all;
-pub use run::Ran;
+pub use run::{Ran, Span};
 pub use wide::WideEngine;

@@ -8,6 +8,7 @@ use bd_uapi::{Command, TransactionData};
 use std::alloc::{AllocError, Global};
 
 // The part of the area that begins at `start`, if it lies inside.
+#[inline(always)]
 fn part(area: &[u8], start: u64, size: u64) -> Option<&[u8]>
     ensures { MatchOption result (nat_le (start + size) (length area.now) ≡ false)
         (λ p. (nat_le (start + size) (length area.now) ≡ true) × (p.now ≡ take size (drop start area.now))) }
@@ -19,6 +20,7 @@ fn part(area: &[u8], start: u64, size: u64) -> Option<&[u8]>
 }
 
 // The parcel that these fields speak of, if it lies inside the area.
+#[inline(always)]
 fn parcel_of(
     alloc: Global,
     area: &[u8],
@@ -40,6 +42,7 @@ fn parcel_of(
 
 /// The parcel of a transaction or reply, in memory of its own, if it lies inside the area.
 #[tactic(auto, unfolding(bd_space::specs::Writes::parcel_for))]
+#[inline(always)]
 pub(crate) fn parcel_for(
     alloc: Global,
     area: &[u8],

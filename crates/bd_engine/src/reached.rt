@@ -5,7 +5,7 @@ ghost use Rattle.bd_keys.specs.Tables.{Makes};
 ghost use Rattle.bd_space.specs.declared.space.TodoList as lists;
 ghost use Rattle.bd_space.specs.Histories.{History, space_after};
 ghost use Rattle.bd_engine.specs.Follows.{Follows};
-ghost use Rattle.bd_engine.specs.Reached.{AreReached, KeepsTold, Recalls, TheseNameAll, has_work, knows_all};
+ghost use Rattle.bd_engine.specs.Reached.{AreReached, HasRoomToTell, KeepsTold, Recalls, TheseNameAll, has_work, knows_all};
 
 use crate::live::Live;
 use bd_space::TodoList;
@@ -37,6 +37,8 @@ impl Live {
         // From now on this was told.
         ensures afresh { OnOk result ((h : History) → Follows self.old h → Recalls self.new (has_work (space_after h))) }
         ensures knows { OnOk result (knows_all self.new ≡ true) }
+        // So many lists may then be filled or emptied before it has to say that any other may have been.
+        ensures room { OnOk result (HasRoomToTell self.new 64) }
         ensures err { OnErr result (KeepsTold self.old self.new) }
         // It has as many seats as before.
         ensures seats { self.new.seats ≡ self.old.seats }

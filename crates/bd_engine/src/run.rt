@@ -26,6 +26,15 @@ pub struct Ran {
     pub to: u32,
 }
 
+/// The places of the steps of a run: from `from` up to and without `to`.
+#[derive(Clone, Copy, Debug)]
+pub struct Span {
+    /// The place of the first step.
+    pub from: u32,
+    /// The place after the last step.
+    pub to: u32,
+}
+
 // What was read, as the answer to a request.
 #[inline(always)]
 fn got(answer: StepAnswer) -> Answer
@@ -86,13 +95,13 @@ fn step_of(request: &Request) -> Option<Step>
 }
 
 impl WideEngine {
-    // A request that is one step.
+    // A request that is one step. Its answer is written to `told`.
     #[inline(always)]
-    fn single(&mut self, seat: u32, step: Step) -> Result<Ran, StepError>
+    fn single(&mut self, seat: u32, step: Step, told: &mut Answer) -> Result<Span, StepError>
         requires seat { seat < self.old.seats }
         requires bare { SpellsCommand step [] }
         ensures ok { (request : Request) → ((s : Space) → runs.run s seat request ≡ runs.single s seat step)
-            → IfOk result (λ r. HasRun self.old self.new seat request r.answer r.from r.to) }
+            → IfOk result (λ span. HasRun self.old self.new seat request told.new span.from span.to) }
         ensures err { OnErr result (self.new ≡ self.old) }
         ensures full { IfErr result (λ why. FullOnly why (is_at_limit self.old seat (Some step) ≡ true)) }
         ensures memory { IfErr result (λ why. MemoryOnly why (HasPlace self.old)) }
@@ -102,43 +111,75 @@ impl WideEngine {
         let mut entry = Entry { seat, step, answer };
         match self.step_in_place(&mut entry, &[]) {
             Err(why) => Err(why),
-            Ok(brief) => Ok(Ran {
-                answer: answered(brief, entry.answer),
-                from,
-                to: self.len(),
-            }),
+            Ok(brief) => {
+                *told = answered(brief, entry.answer);
+                Ok(Span {
+                    from,
+                    to: self.len(),
+                })
+            }
         }
     }
 
-    // A write: its commands, each one step.
+    /// Runs a write: its commands, each one step. As `run_in` does of such a request, but its bytes are lent.
     #[inline(always)]
-    fn write(&mut self, seat: u32, stream: &[u8], area: &[u8]) -> Result<Ran, StepError>
+    pub fn write(
+        &mut self,
+        seat: u32,
+        stream: &[u8],
+        area: &[u8],
+        told: &mut Answer,
+    ) -> Result<Span, StepError>
         requires { seat < self.old.seats }
-        ensures ok { IfOk result (λ r. HasRun self.old self.new seat (Write stream.now area.now) r.answer r.from r.to) }
+        ensures ok { IfOk result (λ span. HasRun self.old self.new seat (Write stream.now area.now) told.new span.from span.to) }
         ensures err { OnErr result (self.new ≡ self.old) }
         ensures away { IfErr result (IsTurnedAway self.old seat (Write stream.now area.now)) }
     {
         let from = self.len();
         if stream.len() > 4096 {
-            return Ok(Ran {
-                answer: Answer::Refused(Fault::StreamTooLong),
-                from,
-                to: from,
-            });
+            *told = Answer::Refused(Fault::StreamTooLong);
+            return Ok(Span { from, to: from });
         }
-        match self.run_commands(seat, stream, area) {
+        match self.run_commands(seat, stream, area, told) {
             Err(why) => Err(why),
-            Ok(answer) => Ok(Ran {
-                answer,
+            Ok(()) => Ok(Span {
                 from,
                 to: self.len(),
             }),
         }
     }
 
-    /// Runs a request: makes its steps, and says what they answer it and where they stand. A write that memory or the
+    /// Runs a request: makes its steps, writes to `told` what they answer it, and says where they stand. A write that memory or the
     /// full history stops after some of its commands answers those; refused before its first step, the engine is as it
-    /// was. A write that makes no step is never refused.
+    /// was, and of what is written nothing is known. A write that makes no step is never refused.
+    #[inline(always)]
+    pub fn run_in(
+        &mut self,
+        seat: u32,
+        request: &Request,
+        told: &mut Answer,
+    ) -> Result<Span, StepError>
+        requires { seat < self.old.seats }
+        ensures ok { IfOk result (λ span. HasRun self.old self.new seat request.now told.new span.from span.to) }
+        ensures err { OnErr result (self.new ≡ self.old) }
+        ensures full { IfErr result (λ why. FullOnly why (IsAtLimit self.old seat request.now)) }
+        // Want of memory isn't said of a full history.
+        ensures memory { IfErr result (λ why. MemoryOnly why (HasPlace self.old)) }
+        // Only a run that has an entry is refused.
+        ensures some { IfErr result (λ _. HasEntry self.old seat request.now) }
+    {
+        match step_of(request) {
+            Some(step) => self.single(seat, step, told),
+            None => match request {
+                Request::Write { stream, area } => {
+                    self.write(seat, stream.as_slice(), area.as_slice(), told)
+                }
+                _ => unreachable!(),
+            },
+        }
+    }
+
+    /// Runs a request as `run_in` does, and answers what it writes beside the places.
     #[inline(always)]
     pub fn run(&mut self, seat: u32, request: &Request) -> Result<Ran, StepError>
         requires { seat < self.old.seats }
@@ -152,14 +193,14 @@ impl WideEngine {
         // It has as many seats as before.
         ensures seats { self.new.seats ≡ self.old.seats }
     {
-        match step_of(request) {
-            Some(step) => self.single(seat, step),
-            None => match request {
-                Request::Write { stream, area } => {
-                    self.write(seat, stream.as_slice(), area.as_slice())
-                }
-                _ => unreachable!(),
-            },
+        let mut answer = Answer::Set;
+        match self.run_in(seat, request, &mut answer) {
+            Err(why) => Err(why),
+            Ok(span) => Ok(Ran {
+                answer,
+                from: span.from,
+                to: span.to,
+            }),
         }
     }
 }

@@ -228,7 +228,8 @@ impl WideEngine {
         match self.live.make(entry, &mut self.entries) {
             Ok(brief) => {
                 self.live.refresh_ready();
-                self.entries.log.push(entry, command);
+                let step = self.entries.step;
+                self.entries.log.push(entry, command, step);
                 Ok(brief)
             }
             Err(why) => Err(why),

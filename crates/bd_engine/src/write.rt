@@ -11,7 +11,8 @@ ghost use Rattle.bd_space.specs.{Runs.{HasRun}, Writes.{step_of_command}};
 ghost use Rattle.bd_engine.specs.Refusals.{FullOnly, MemoryOnly};
 ghost use Rattle.bd_step.specs.Plain.{IsBrief};
 ghost use Rattle.bd_engine.specs.Writing.{HasCome, IsSame, IsAt, IsAfter, IsCourse, IsCutAt, IsTurnedAway, IsNext, IsSpelled, refused};
-ghost use Rattle.bd_engine.specs.Writing.{Ends, course_of, course_or, ended};
+ghost use Rattle.bd_engine.specs.Writing.{Ends, course_of, course_or, ended, is_unnoted};
+ghost use Rattle.bd_space.specs.declared.step.Answer.TheVariants.{Wrote};
 
 use crate::parcel::parcel_for;
 use crate::wide::WideEngine;
@@ -42,6 +43,35 @@ pub(crate) enum Going {
     Stops(Stop),
     /// The write is refused as a whole, for this reason.
     Refused(Fault),
+}
+
+// The answer is to a write that has no notes.
+#[inline(always)]
+fn is_unnoted(told: &Answer) -> bool
+    ensures { result ≡ is_unnoted told.now }
+{
+    match told {
+        Answer::Wrote { notes, .. } => notes.as_slice().is_empty(),
+        _ => false,
+    }
+}
+
+// The answer to a write without notes, in place of that to another one.
+#[inline(always)]
+fn set_numbers(told: &mut Answer, consumed: u32, stop: Option<Stop>)
+    requires { is_unnoted told.old ≡ true }
+    ensures { told.new ≡ Wrote consumed [] stop }
+{
+    let Answer::Wrote {
+        consumed: to,
+        notes: _,
+        stop: why,
+    } = told
+    else {
+        unreachable!()
+    };
+    *to = consumed;
+    *why = stop;
 }
 
 impl Progress {
@@ -161,10 +191,28 @@ impl Progress {
             stop,
         }
     }
+
+    // Writes the answer to the write, which ended so, over the answer to an earlier one: where neither has notes only their
+    // numbers differ.
+    #[inline(always)]
+    fn tell(&mut self, going: Going, told: &mut Answer)
+        ensures { told.new ≡ ended self.old going }
+    {
+        if !self.notes.is_empty() || !is_unnoted(told) {
+            *told = self.answer(going);
+            return;
+        }
+        match going {
+            Going::Refused(fault) => *told = Answer::Refused(fault),
+            Going::Stops(stop) => set_numbers(told, self.consumed, Some(stop)),
+            Going::On => set_numbers(told, self.consumed, None),
+        }
+    }
 }
 
 impl WideEngine {
     // Makes the step of a command, which these bytes spell. There is room for its note by then, so that no step that was made is lost.
+    #[inline(always)]
     fn attempt(
         &mut self,
         seat: u32,
@@ -267,10 +315,11 @@ impl WideEngine {
         seat: u32,
         stream: &[u8],
         area: &[u8],
-    ) -> Result<Answer, StepError>
+        told: &mut Answer,
+    ) -> Result<(), StepError>
         requires seat { seat < self.old.seats }
         requires short { length stream.now ≤ 4096 }
-        ensures ok { IfOk result (λ a. HasRun self.old self.new seat (Write stream.now area.now) a
+        ensures ok { OnOk result (HasRun self.old self.new seat (Write stream.now area.now) told.new
             (length self.old.entries) (length self.new.entries)) }
         ensures err { OnErr result (self.new ≡ self.old) }
         ensures away { IfErr result (IsTurnedAway self.old seat (Write stream.now area.now)) }
@@ -279,9 +328,9 @@ impl WideEngine {
         match self.run_each(seat, stream, area, &mut progress) {
             Err(why) => Err(why),
             Ok(going) => {
-                let answer = progress.answer(going);
+                progress.tell(going, told);
                 self.keep_notes(progress.notes);
-                Ok(answer)
+                Ok(())
             }
         }
     }

@@ -1,7 +1,7 @@
 -- One spelling behind another.
 use Rattle.std.proofs.Common.{◌≡◌, ℕ, ◌+◌, ◌≤◌, List, ◌++◌, length, take, drop, sym, ap, subst, ◌∙◌, arith}
 use Rattle.std.proofs.lemmas.Bool.{le-leb}
-use Rattle.std.proofs.lemmas.List.{append_assoc, length-append, drop-drop, take-append-drop}
+use Rattle.std.proofs.lemmas.List.{append_assoc, append-nil, length-append, drop-drop, drop_all, take_all, take-append-drop}
 use Rattle.bd_spelling.specs.Laid.{IsLaid, IsLaidIfRoom}
 
 pub laid_then : (at e f : ℕ) (xs ys old mid new : List ℕ) → IsLaid at xs old mid e → IsLaid e ys mid new f → IsLaid at (xs ++ ys) old new f
@@ -23,3 +23,8 @@ laid_whole e bytes old new a fits =
     let end : e ≡ length bytes = a.ends ∙ omega arith in
     rw (le-leb (length bytes) (length old) fits)
     (sym (take-append-drop e new) ∙ ap (λ (t : List ℕ). t ++ drop e new) a.front ∙ ap (λ (t : List ℕ). bytes ++ t) (a.rest ∙ ap (λ (i : ℕ). drop i old) end))
+
+-- a vector's bytes that were all lent, and are as many as before, are those that came back
+pub written_back : (n : ℕ) (bytes out : List ℕ) → n ≡ length bytes → length out ≡ length bytes → take n (out ++ drop (length out) bytes) ≡ out
+written_back n bytes out all same =
+    ap (λ (t : List ℕ). take n (out ++ t)) (drop_all (length out) bytes (omega (arith, same))) ∙ ap (take n) (append-nil out) ∙ take_all n out (omega (arith, same, all))

@@ -2,13 +2,14 @@
 
 ghost use Rattle.std.specs.Prelude.{◌≡◌, ◌+◌, ◌-◌, ◌++◌, ◌∷◌, ◌≤◌, [], length, IfOk, IfErr, OnOk, OnErr, Some, MatchOption};
 ghost use Rattle.std.specs.List.{flat_map};
-ghost use Rattle.bd_spelling.specs.Spelling.{IsEntry, SpellsCommand, entry_bytes};
-ghost use Rattle.bd_spelling.specs.Logged.{every_seat};
+ghost use Rattle.bd_spelling.specs.Spelling.{IsEntry, SpellsCommand, entry_bytes, step_bytes};
+ghost use Rattle.bd_spelling.specs.{Laid.{IsLaid}, Logged.{every_seat}};
 
 use crate::fault::ReadError;
-use crate::putting::put_entry;
+use crate::laid::lay_whole;
 use crate::reading::entry_at;
 use crate::versions::Version;
+use crate::writing::answer_len;
 use bd_space::Entry;
 use std::alloc::{AllocError, Global};
 use std::marker::Model;
@@ -19,22 +20,37 @@ pub const EVERY_SEAT: u32 = 4294967295;
 /// Spellings of entries, and room for more. A contract sees the entries that are spelled, and how many bytes there is room for.
 #[derive(Drop, Debug)]
 pub struct Chunk {
+    // All of its memory, of which the first bytes are used.
     bytes: Vec<u8>,
+    used: usize,
     count: usize,
 }
 
 impl Model for Chunk {
-    ghost use Rattle.std.specs.Prelude.{◌-◌, vec_len, vec_capacity};
+    ghost use Rattle.std.specs.Prelude.{◌-◌, ◌≤◌, length, take};
     ghost use Rattle.bd_spelling.specs.Logged.{LogView, AreSpelled, entries_in};
 
     ghost Value = { LogView };
 
     ghost view = { λ c. record {
-      entries = entries_in c.count c.bytes.items;
-      room = vec_capacity c.bytes - vec_len c.bytes;
+      entries = entries_in c.count (take c.used c.bytes.items);
+      room = length c.bytes.items - c.used;
     } };
 
-    ghost invariant = { λ c. AreSpelled c.count c.bytes.items };
+    ghost invariant = { λ c. AreSpelled c.count (take c.used c.bytes.items) × (c.used ≤ length c.bytes.items) };
+}
+
+// Spells an entry behind the first of these bytes, so many, and answers where it ends.
+#[inline(always)]
+fn lay_behind(bytes: &mut Vec<u8>, used: usize, entry: &Entry, command: &[u8], step: u32) -> usize
+    requires command { SpellsCommand entry.now.step command.now }
+    requires step { step ≡ length (step_bytes entry.now.step) }
+    requires spelled { IsEntry every_seat entry.now }
+    requires room { used + length (entry_bytes entry.now) ≤ length bytes.old.items }
+    ensures { IsLaid used (entry_bytes entry.now) bytes.old.items bytes.new.items result }
+{
+    let answer = answer_len(&entry.answer).unwrap();
+    lay_whole(bytes, used, entry, command, step, answer)
 }
 
 impl Chunk {
@@ -44,6 +60,7 @@ impl Chunk {
     {
         Chunk {
             bytes: Vec::new(alloc),
+            used: 0,
             count: 0,
         }
     }
@@ -54,7 +71,8 @@ impl Chunk {
         ensures room { IfOk result (λ c. room ≤ c.room) }
     {
         Ok(Chunk {
-            bytes: Vec::with_capacity(alloc, room)?,
+            bytes: vec![in alloc; 0; room]?,
+            used: 0,
             count: 0,
         })
     }
@@ -70,25 +88,27 @@ impl Chunk {
     pub fn room(&self) -> usize
         ensures { result ≡ self.now.room }
     {
-        self.bytes.capacity() - self.bytes.len()
+        self.bytes.len() - self.used
     }
 
     /// What the entries are spelled as, one after the other, as in a journal behind its heading.
     pub fn bytes(&self) -> &[u8]
         ensures { result.now ≡ flat_map entry_bytes self.now.entries }
     {
-        self.bytes.as_slice()
+        &self.bytes[..self.used]
     }
 
     /// Adds an entry that a journal spells, whose command these bytes spell, and that fits into the room. It can't fail.
-    pub fn push(&mut self, entry: &Entry, command: &[u8])
+    #[inline(always)]
+    pub fn push(&mut self, entry: &Entry, command: &[u8], step: u32)
         requires command { SpellsCommand entry.now.step command.now }
+        requires step { step ≡ length (step_bytes entry.now.step) }
         requires spelled { IsEntry every_seat entry.now }
         requires room { length (entry_bytes entry.now) ≤ self.old.room }
         ensures entries { self.new.entries ≡ self.old.entries ++ entry.now ∷ [] }
         ensures room { self.old.room ≤ self.new.room + length (entry_bytes entry.now) }
     {
-        put_entry(&mut self.bytes, entry, command);
+        self.used = lay_behind(&mut self.bytes, self.used, entry, command, step);
         self.count += 1;
     }
 
@@ -97,7 +117,7 @@ impl Chunk {
         ensures { result ≡ self.now.entries }
     {
         ChunkReader {
-            bytes: self.bytes.as_slice(),
+            bytes: &self.bytes[..self.used],
             left: self.count,
         }
     }

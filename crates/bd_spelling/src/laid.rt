@@ -11,6 +11,7 @@ use crate::writing::{answer_len, command_of, step_len};
 use bd_space::{Entry, Parcel, Step, StepAnswer};
 
 // Copies bytes to a place, and answers the place behind them.
+#[inline(always)]
 fn lay(out: &mut [u8], at: usize, bytes: &[u8]) -> usize
     requires { at + length bytes.now ≤ length out.old }
     ensures { IsLaid at bytes.now out.old out.new result }
@@ -20,6 +21,7 @@ fn lay(out: &mut [u8], at: usize, bytes: &[u8]) -> usize
     to
 }
 
+#[inline(always)]
 fn lay_word(out: &mut [u8], at: usize, n: u32) -> usize
     requires { at + 4 ≤ length out.old }
     ensures { IsLaid at (word n) out.old out.new result }
@@ -27,6 +29,7 @@ fn lay_word(out: &mut [u8], at: usize, n: u32) -> usize
     lay(out, at, &n.to_le_bytes())
 }
 
+#[inline(always)]
 fn lay_block(out: &mut [u8], at: usize, bytes: &[u8]) -> usize
     requires fits { IsBlock bytes.now }
     requires room { at + 4 + length bytes.now ≤ length out.old }
@@ -36,6 +39,7 @@ fn lay_block(out: &mut [u8], at: usize, bytes: &[u8]) -> usize
     lay(out, at, bytes)
 }
 
+#[inline(always)]
 fn lay_parcel(out: &mut [u8], at: usize, parcel: &Option<Parcel>) -> usize
     requires fits { IfSome parcel.now (λ p. IsBlock p.bytes × IsBlock p.offsets) }
     requires room { at + length (parcel_bytes parcel.now) ≤ length out.old }
@@ -51,6 +55,7 @@ fn lay_parcel(out: &mut [u8], at: usize, parcel: &Option<Parcel>) -> usize
     }
 }
 
+#[inline(always)]
 fn lay_step(out: &mut [u8], at: usize, step: &Step, command: &[u8]) -> usize
     requires command { SpellsCommand step.now command.now }
     requires spelled { IsStep step.now }
@@ -85,6 +90,7 @@ fn lay_step(out: &mut [u8], at: usize, step: &Step, command: &[u8]) -> usize
     }
 }
 
+#[inline(always)]
 fn lay_answer(out: &mut [u8], at: usize, answer: &StepAnswer) -> usize
     requires spelled { IsAnswer answer.now }
     requires room { at + length (answer_bytes answer.now) ≤ length out.old }
@@ -111,6 +117,32 @@ fn lay_answer(out: &mut [u8], at: usize, answer: &StepAnswer) -> usize
     }
 }
 
+/// Puts the one spelling of an entry that a journal spells to a place, and answers the place behind it. The step's command, if it is one,
+/// is spelled by these bytes; the lengths are those of the spellings of the step and of the answer.
+#[inline(always)]
+pub(crate) fn lay_whole(
+    out: &mut [u8],
+    at: usize,
+    entry: &Entry,
+    command: &[u8],
+    step: u32,
+    answer: u32,
+) -> usize
+    requires command { SpellsCommand entry.now.step command.now }
+    requires spelled { IsStep entry.now.step × IsBlock (step_bytes entry.now.step) }
+    requires answered { IsAnswer entry.now.answer }
+    requires step { step ≡ length (step_bytes entry.now.step) }
+    requires answer { answer ≡ length (answer_bytes entry.now.answer) }
+    requires room { at + length (entry_bytes entry.now) ≤ length out.old }
+    ensures { IsLaid at (entry_bytes entry.now) out.old out.new result }
+{
+    let at = lay_word(out, at, entry.seat);
+    let at = lay_word(out, at, step);
+    let at = lay_step(out, at, &entry.step, command);
+    let at = lay_word(out, at, answer);
+    lay_answer(out, at, &entry.answer)
+}
+
 /// Puts the one spelling of an entry of a journal of so many seats where the caller's memory begins, if all of it fits; else that
 /// memory is left as it is. Answers how many bytes the spelling has; None where no such journal spells the entry.
 pub fn lay_entry(seats: u32, entry: &Entry, out: &mut [u8]) -> Option<usize>
@@ -126,11 +158,7 @@ pub fn lay_entry(seats: u32, entry: &Entry, out: &mut [u8]) -> Option<usize>
     let answer = answer_len(&entry.answer)?;
     let len = 12 + step as usize + answer as usize;
     if len <= out.len() {
-        let at = lay_word(out, 0, entry.seat);
-        let at = lay_word(out, at, step);
-        let at = lay_step(out, at, &entry.step, command);
-        let at = lay_word(out, at, answer);
-        let _end = lay_answer(out, at, &entry.answer);
+        let _end = lay_whole(out, 0, entry, command, step, answer);
     }
     Some(len)
 }

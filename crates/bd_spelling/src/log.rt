@@ -2,7 +2,7 @@
 
 ghost use Rattle.std.specs.Prelude.{◌≡◌, ◌+◌, ◌++◌, ◌∷◌, ◌≤◌, ◌<◌, [], length, IfOk, OnOk, OnErr, Some, MatchOption};
 ghost use Rattle.std.specs.List.{flat_map};
-ghost use Rattle.bd_spelling.specs.Spelling.{IsEntry, SpellsCommand, entry_bytes};
+ghost use Rattle.bd_spelling.specs.Spelling.{IsEntry, SpellsCommand, entry_bytes, step_bytes};
 ghost use Rattle.bd_spelling.specs.Logged.{AreSeatsOf, every_seat};
 ghost use Rattle.bd_spelling.specs.Writing.{Sends};
 
@@ -89,15 +89,16 @@ impl Log {
     }
 
     /// Adds an entry that a journal spells, whose command these bytes spell, and for which room was made. It can't fail.
-    pub fn push(&mut self, entry: &Entry, command: &[u8])
+    pub fn push(&mut self, entry: &Entry, command: &[u8], step: u32)
         requires command { SpellsCommand entry.now.step command.now }
+        requires step { step ≡ length (step_bytes entry.now.step) }
         requires spelled { IsEntry every_seat entry.now }
         requires room { length (entry_bytes entry.now) ≤ self.old.room }
         requires count { length self.old.entries + 1 < 18446744073709551616 }
         ensures entries { self.new.entries ≡ self.old.entries ++ entry.now ∷ [] }
         ensures room { self.old.room ≤ self.new.room + length (entry_bytes entry.now) }
     {
-        self.last.push(entry, command);
+        self.last.push(entry, command, step);
         self.count += 1;
         self.seats = self.seats.max(entry.seat + 1);
     }
@@ -120,7 +121,7 @@ impl Log {
             return Err(AllocError);
         };
         self.reserve(12 + step as usize + answer as usize)?;
-        self.push(entry, command);
+        self.push(entry, command, step);
         Ok(())
     }
 

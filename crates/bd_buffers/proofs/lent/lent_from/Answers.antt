@@ -19,6 +19,6 @@ slice-offsets-requires c =
 pub returns : goal.returns
 returns c =
     let m = c.args.memory.now in
-    let r = c.args.record.now in
+    let r = c.args.noted.now in
     ap (λ xs. with_bytes r xs c.slice-offsets.result.now) c.slice-bytes.ensures
     ∙ ap (λ xs. with_bytes r (between r.start (r.start + r.data_size) m) xs) (c.slice-offsets.ensures ∙ ap (λ k. between k (k + r.offsets_size) m) c.offsets_at-at.ensures)

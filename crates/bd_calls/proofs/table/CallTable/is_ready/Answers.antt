@@ -1,22 +1,14 @@
-use Rattle.std.proofs.Common.{arith}
-use Rattle.bd_space.specs.Todo.{list_to_read}
-use Rattle.bd_calls.proofs.Seats.{seen_ready}
+use Rattle.std.proofs.Common.{None, ap, sym, subst, ◌∙◌, get_or, IfSome}
+use Rattle.bd_space.specs.Todo.{has_work_in}
+use Rattle.bd_calls.specs.Ready.{IsSeen}
 use Rattle.bd_calls.proofs.table.CallTable.is_ready.Goals as goal
 
-pub returns-then-seen : goal.returns-then-seen
-unfolding list_to_read
-returns-then-seen c = λ s stands.
-    let ready = seen_ready s.frames s.threads s.todo c.args.seat c.seen_at-seen.result c.in-Some.thread c.in-Some.is (c.seen_at-seen.ensures s stands) in
-    grind (arith, ready, c.if-seen.true)
+pub returns-in_default : goal.returns-in_default
+returns-in_default c = λ s stands. c.reads_any-in_default.ensures s c.args.seat stands (c.look_at.ensures s.threads s.todo stands.threads_are stands.todo_are)
 
-pub returns-then-seen-2 : goal.returns-then-seen-2
-unfolding list_to_read
-returns-then-seen-2 c = λ s stands.
-    let ready = seen_ready s.frames s.threads s.todo c.args.seat c.seen_at-seen.result c.in-Some.thread c.in-Some.is (c.seen_at-seen.ensures s stands) in
-    grind (arith, ready, c.if-seen.false, c.if-seen-2.true, c.is_idle.ensures s.frames stands.frames_are)
-
-pub returns-else-seen-2 : goal.returns-else-seen-2
-unfolding list_to_read
-returns-else-seen-2 c = λ s stands.
-    let ready = seen_ready s.frames s.threads s.todo c.args.seat c.seen_at-seen.result c.in-Some.thread c.in-Some.is (c.seen_at-seen.ensures s stands) in
-    grind (arith, ready, c.if-seen.false, c.if-seen-2.false)
+pub returns-in-Some-Some : goal.returns-in-Some-Some
+returns-in-Some-Some c = λ s stands.
+    let seat = c.args.seat in
+    let item = c.in-Some-Some.ensures in
+    c.reads_any.ensures s seat stands (subst (λ o. IfSome o (IsSeen s.threads (has_work_in s.todo) seat))
+    (ap (λ xs. get_or xs seat None) (sym c.deref.ensures.value) ∙ sym (item.lookup.3.1 None) ∙ c.in-Some-Some.field-0-is) (stands.ready_are seat))

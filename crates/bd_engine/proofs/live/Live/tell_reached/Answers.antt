@@ -1,9 +1,10 @@
-use Rattle.std.proofs.Common.{Bool, ◌≡◌, Result, Ok, Err, refl, ap, sym, subst, ◌∙◌}
+use Rattle.std.proofs.Common.{ℕ, ◌≤◌, Bool, ◌≡◌, Result, Ok, Err, refl, ap, sym, subst, ◌∙◌, arith}
 use Rattle.std.specs.Prelude.{OnErr}
 use Rattle.std.proofs.lemmas.Result.{IfOk-weaker, on_ok_weaker, on_err_weaker}
 use Rattle.bd_space.specs.declared.space.TodoList.{TodoList}
 use Rattle.bd_space.specs.Histories.{History, space_after}
-use Rattle.bd_calls.specs.Told.{Recalls, knows_all}
+use Rattle.bd_calls.specs.declared.table.CallTable.{CallTable}
+use Rattle.bd_calls.specs.Told.{Recalls, HasRoomToTell, knows_all}
 use Rattle.bd_step.specs.declared.tables.Tables.{Tables}
 use Rattle.bd_step.specs.Stands.{Before}
 use Rattle.bd_step.proofs.Changing.{with_calls}
@@ -58,3 +59,10 @@ returns-clause-afresh c = on_ok_weaker c.tell_reached.result
 pub returns-clause-err : goal.returns-clause-err
 returns-clause-err c = on_err_weaker c.tell_reached.result
     (λ keeps told k. keeps told (c.reserve_reached.ensures.told told (recalls c.args.self.now _ c.deref_mut-tables.ensures.value told k))) c.tell_reached.ensures.err
+
+room_less : (t : CallTable) (m n : ℕ) → m ≤ n → HasRoomToTell t n → HasRoomToTell t m
+unfolding HasRoomToTell
+room_less t m n l h = (h.0, omega (arith, l, h.1))
+
+pub returns-clause-room : goal.returns-clause-room
+returns-clause-room c = on_ok_weaker c.tell_reached.result (λ has. room_less _ 64 _ c.in_ok-reserve_reached.ensures.room has) c.tell_reached.ensures.room

@@ -30,6 +30,12 @@ push-requires-clause-spelled c =
       answer_block = made.kept.1;
     }
 
+pub push-requires-clause-step : goal.push-requires-clause-step
+push-requires-clause-step c =
+    let made = c.in-Ok.ensures in
+    let len = of_ok c.begin.result (sym c.is_err.ensures.value ∙ c.if-is_err.false) c.begin.ensures.len in
+    ap (λ rest. rest.1) made.rest ∙ len ∙ ap (λ (z : Step). length (step_bytes z)) (sym made.step)
+
 pub push-requires-clause-room : goal.push-requires-clause-room
 push-requires-clause-room c =
     let made = c.in-Ok.ensures in

@@ -1,8 +1,8 @@
 use Rattle.std.proofs.Common.{ℕ, None, sym, subst, arith, get_or, IfSome}
 use Rattle.bd_space.specs.Todo.{has_work_in}
 use Rattle.bd_calls.specs.Ready.{IsSeen, AreSeen}
-use Rattle.bd_calls.proofs.{Seats.{look_seen}, ready.ReadySeats.refresh.Goals.{then-at-len+then-is_none, else-at-len}}
-use Rattle.bd_calls.proofs.ready.ReadySeats.refresh.Goals as goal
+use Rattle.bd_calls.proofs.{Seats.{look_seen}, ready.ReadySeats.look.Goals.{then-at-len+then-is_none, else-at-len}}
+use Rattle.bd_calls.proofs.ready.ReadySeats.look.Goals as goal
 
 pub loop-seat-preserved : goal.loop-seat-preserved
 loop-seat-preserved c = λ ts ws listed are first.

@@ -4,7 +4,7 @@ use Rattle.bd_space.specs.Todo.{has_work_in}
 use Rattle.bd_todo.specs.Stands.{WorksAre}
 use Rattle.bd_threads.specs.Listed.{listed}
 use Rattle.bd_calls.specs.Ready.{AreSeen}
-use Rattle.bd_calls.proofs.ready.ReadySeats.refresh.Given as goal
+use Rattle.bd_calls.proofs.ready.ReadySeats.look.Given as goal
 
 abbrev pub invariant-loop-seat : goal.invariant-loop-seat
 invariant-loop-seat l = (ts : List Thread) (ws : List Work) → listed l.threads ≡ ts → WorksAre l.todo ws
