@@ -1,6 +1,7 @@
 //! Those that want a turn.
 
-ghost use Rattle.std.specs.Prelude.{◌≡◌, ◌++◌, [], option_to_list, is_ok, if◌then◌else◌};
+ghost use Rattle.std.specs.Prelude.{◌≡◌, ◌≤◌, ◌++◌, [], false, option_to_list, is_ok, if◌then◌else◌, OnErr};
+ghost use Rattle.std.specs.VecDeque.{deque_len, deque_capacity};
 ghost use Rattle.bd_ring.specs.Turns.{IsRing, wants as wants_turn, after_enter, after_leave, after_turn, after_pass};
 
 use std::alloc::{AllocError, Global};
@@ -40,7 +41,9 @@ impl Ring {
     #[tactic(auto, using(crate::proofs::Rings::ring_more))]
     /// One wants a turn, behind all others. Errors: memory was refused, and nobody comes.
     pub fn attach(&mut self, one: u32) -> Result<(), AllocError>
-        ensures { self.new.queue.items ≡ (if is_ok result then after_enter self.old.queue.items one else self.old.queue.items) }
+        ensures enters { self.new.queue.items ≡ (if is_ok result then after_enter self.old.queue.items one else self.old.queue.items) }
+        // Memory was asked for: it wanted none, and there was no room.
+        ensures grown { OnErr result ((wants_turn self.old.queue.items one ≡ false) × (deque_capacity self.old.queue ≤ deque_len self.old.queue)) }
     {
         if self.wants(one) {
             return Ok(());

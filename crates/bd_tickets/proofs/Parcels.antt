@@ -1,6 +1,6 @@
 -- One parcel more or less.
 use Rattle.std.proofs.Common.{◌≡◌, ℕ, ◌+◌, ◌<◌, ◌≤◌, Bool, true, false, List, [], ◌∷◌, ◌++◌, length, drop, get_or, Option, Some, None, refl, sym, ap, ◌∙◌, arith}
-use Rattle.std.specs.Prelude.{◌==◌, swap_remove}
+use Rattle.std.specs.Prelude.{◌==◌, swap_remove, find, option_map}
 use Rattle.std.proofs.lemmas.Bool.{eqb-true, eq-eqb}
 use Rattle.std.proofs.lemmas.List.{drop_more, drop_all}
 use Rattle.std.proofs.lemmas.List.Sums.{sum_by-append, sum_by-swap_remove}
@@ -35,3 +35,31 @@ is_later xs i step p total lt isnt so_far =
 
 pub is_nowhere : (xs : List Parcel) (i step : ℕ) (total : Option (List ℕ)) → length xs ≤ i → descriptors_of step (drop i xs) ≡ total → None ≡ total
 is_nowhere xs i step total le so_far = sym (ap (descriptors_of step) (drop_all i xs le)) ∙ so_far
+
+-- ---- which parcel is found once one more is there
+
+module _ (q : Parcel → Bool) where
+  find_last : (xs : List Parcel) (p : Parcel) → q p ≡ true → find q xs ≡ None → find q (xs ++ p ∷ []) ≡ Some p
+  find_last [] p t n = grind (arith, t)
+  find_last (x ∷ xs) p t n = grind (arith, find_last xs p t, n)
+
+  find_others : (xs : List Parcel) (p : Parcel) → q p ≡ false → find q (xs ++ p ∷ []) ≡ find q xs
+  find_others [] p f = grind (arith, f)
+  find_others (x ∷ xs) p f = grind (arith, find_others xs p f)
+
+none_is : (o : Option Parcel) → option_map (λ p. p.descriptors.items) o ≡ None → o ≡ None
+none_is None e = refl
+none_is (Some p) e = absurd cc
+
+pub found_more : (xs ys : List Parcel) (p : Parcel) → ys ≡ xs ++ p ∷ [] → descriptors_of p.step xs ≡ None → descriptors_of p.step ys ≡ Some p.descriptors.items
+found_more xs ys p e none =
+    ap (descriptors_of p.step) e
+    ∙ ap (option_map (λ r. r.descriptors.items)) (find_last (λ r. r.step == p.step) xs p (eq-eqb p.step p.step refl) (none_is (find (λ r. r.step == p.step) xs) none))
+
+pub others_more : (xs ys : List Parcel) (p : Parcel) (s : ℕ) → ys ≡ xs ++ p ∷ [] → (s ≡ p.step → ⊥) → descriptors_of s ys ≡ descriptors_of s xs
+others_more xs ys p s e isnt =
+    ap (descriptors_of s) e ∙ ap (option_map (λ r. r.descriptors.items)) (find_others (λ r. r.step == s) xs p (differs (p.step == s) refl))
+  where
+    differs : (b : Bool) → (p.step == s) ≡ b → (p.step == s) ≡ false
+    differs true f = absurd (isnt (sym (eqb-true p.step s f)))
+    differs false f = f

@@ -1,6 +1,6 @@
 //! The descriptors of parcels that are on their way.
 
-ghost use Rattle.std.specs.Prelude.{ℕ, ◌≡◌, ◌+◌, true, OnOk, OnErr, IfErr, MatchOption, option_map};
+ghost use Rattle.std.specs.Prelude.{ℕ, ◌≡◌, ◌+◌, ◌≤◌, true, false, length, Some, None, OnOk, OnErr, IfErr, MatchOption, option_map};
 ghost use Rattle.bd_tickets.specs.Held.{held, count_of, descriptors_of};
 
 use std::alloc::Global;
@@ -32,7 +32,8 @@ impl Tickets {
 
     /// Whether none is on its way.
     pub fn is_empty(&self) -> bool
-        ensures { result ≡ true → (d : ℕ) → held self.now d ≡ 0 }
+        ensures none { result ≡ true → (d : ℕ) → held self.now d ≡ 0 }
+        ensures some { result ≡ false → 1 ≤ length self.now.parcels.items }
     {
         self.parcels.is_empty()
     }
@@ -40,6 +41,11 @@ impl Tickets {
     /// A parcel goes on its way. Errors: memory was refused; its descriptors come back, and all others are as before.
     pub fn put(&mut self, step: u64, descriptors: Vec<u32>) -> Result<(), Vec<u32>>
         ensures ok { OnOk result ((d : ℕ) → held self.new d ≡ held self.old d + count_of d descriptors.items) }
+        // It is found by its step, where no other of that step was on its way, and all others as before.
+        ensures found { OnOk result (descriptors_of step self.old.parcels.items ≡ None
+            → descriptors_of step self.new.parcels.items ≡ Some descriptors.items) }
+        ensures others { OnOk result ((s : ℕ) → (s ≡ step → ⊥)
+            → descriptors_of s self.new.parcels.items ≡ descriptors_of s self.old.parcels.items) }
         ensures back { IfErr result (λ ds. ds.items ≡ descriptors.items) }
         ensures err { OnErr result ((d : ℕ) → held self.new d ≡ held self.old d) }
     {
