@@ -94,7 +94,9 @@ struct ring_heading {
     char device[RING_DEVICE]; /* 40: its name, with a 0 behind it */
     uint8_t nothing[24];     /* 104 */
     uint64_t count;          /* 128: steps that are in slots, or were: step N is in slot N % slot_count until N + slot_count is */
-    uint8_t nothing_else[56]; /* 136 */
+    uint64_t rests;          /* 136: how often nothing had come for a second .. */
+    uint64_t left_idle;      /* 144: .. and how many threads were still to be looked at then, in all: none */
+    uint8_t nothing_else[40]; /* 152 */
     struct ring_counts counts; /* 192 */
 };
 

@@ -96,7 +96,7 @@ enum {
     HULLPIPPIN_NOT_WAITING = 3,     /* no request of this seat is handed over */
     HULLPIPPIN_TAKEN = 4,           /* serve: another seat has the engine */
     HULLPIPPIN_NO_SUCH_REQUEST = 5, /* post: there is no such kind of request; post, set_spam, live_set_spam: `on` is
-                                       neither 0 nor 1; bridge_wait: nor is `defers`; again: none came back */
+                                       neither 0 nor 1; bridge_wait: nor is `defers` one of its numbers; again: none came back */
     HULLPIPPIN_SEAT_COUNT = 6,      /* new: the number of seats isn't 1 to 31; live_new: 1 to 65536 */
     HULLPIPPIN_NO_SEAT_LEFT = 7,    /* take_seat: all seats are taken */
     HULLPIPPIN_SEATS_AWAY = 8,      /* finish: a seat isn't back */
@@ -527,14 +527,14 @@ bool hullpippin_live_reached(hullpippin_live *live, size_t index, hullpippin_tod
  * threads, in whatever way these wait, tells it three things: that a thread begins to wait, that it has stopped, and each step, by the calls
  * above, which are made with a bridge as with any live engine. It asks after each of them whom to wake:
  *
- *     hullpippin_bridge_wait(&live, seat, room, 1);
+ *     hullpippin_bridge_wait(&live, seat, room, HULLPIPPIN_READS_AHEAD);
  *     do {
  *         hullpippin_bridge_settle(&live, 64, &signal);
  *         .. wake signal.seat, where the signal is HULLPIPPIN_SIGNAL_READ and `wakes`, with what was read for it ..
  *     } while (signal.is_left);
  *
  * Proved is that nobody is forgotten: whoever waits in a read has nothing to read, or is still to be looked at; where settle says that
- * nobody is left, nobody who waits has. And nobody is woken twice, or for nothing. A bridge asks the engine itself whom its steps
+ * nobody is left, nobody who waits has, but for a completion alone that is left (HULLPIPPIN_LEAVES). And nobody is woken twice, or for nothing. A bridge asks the engine itself whom its steps
  * have reached: hullpippin_live_ask_reached has nothing to tell then.
  *
  * A thread that waits makes no open or attach: that is WAITING. Whoever ends it has it stop waiting too.
@@ -543,11 +543,17 @@ bool hullpippin_live_reached(hullpippin_live *live, size_t index, hullpippin_tod
 /* As hullpippin_live_new, but that of each seat it is kept how it waits: at first none does. */
 uint32_t hullpippin_bridge_new(uint32_t seats, hullpippin_live *live);
 
+/* What a thread that waits in a read need not be told before the reply to a call of its own: BR_TRANSACTION_COMPLETE, BR_INCREFS and
+   BR_ACQUIRE. That it is in a call, and serves none inside of that, is asked of the engine. */
+enum {
+    HULLPIPPIN_TELLS_ALL = 0,   /* it is told of all */
+    HULLPIPPIN_READS_AHEAD = 1, /* such may be read for it meanwhile, and it waits on */
+    HULLPIPPIN_LEAVES = 2,      /* the same; and a completion alone is left, to be read along with what comes behind it */
+};
+
 /* The seat's thread waits in a read from now on, with room for `room` bytes, which is at least 72; where it waits in one already, this one
-   takes its place. Where `defers` is 1, and not 0, what it need not be told before the reply to a call of its own may be read for it
-   meanwhile, and it waits on: BR_TRANSACTION_COMPLETE, BR_INCREFS and BR_ACQUIRE. That it is in a call, and serves none inside of that, is
-   asked of the engine. Also NO_SUCH_SEAT, where the engine is no bridge too; NO_MEMORY: then it waits as before; and
-   NO_SUCH_REQUEST, where `defers` is neither 0 nor 1. */
+   takes its place. `defers` is one of the numbers above. Also NO_SUCH_SEAT, where the engine is no bridge too; NO_MEMORY: then it waits as
+   before; and NO_SUCH_REQUEST, where `defers` is none of them. */
 uint32_t hullpippin_bridge_wait(hullpippin_live *live, uint32_t seat, uint32_t room, uint32_t defers);
 
 /* The seat's thread has a doorbell from now on, which is silent: it is told each time that it comes to have something to read,

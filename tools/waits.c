@@ -93,6 +93,15 @@ static bool defers(hullpippin_live *live)
            && is_settled(live) && waits(live, OTHER, 0) && wakes(live, OTHER) && is_settled(live);
 }
 
+/* The completion of a call is left where it is, and read along with the reply: one read, and one signal. */
+static bool leaves(hullpippin_live *live)
+{
+    return reads(live, SECOND) && calls(live, CLIENT, 0, 0) && waits(live, CLIENT, HULLPIPPIN_LEAVES) && is_settled(live)
+           && hullpippin_live_ready(live, CLIENT) && waits(live, SECOND, 0) && wakes(live, SECOND) && is_settled(live)
+           && replies(live, SECOND) && wakes(live, CLIENT) && is_settled(live)
+           && is(!hullpippin_live_ready(live, CLIENT), "the reply isn't read along with the completion");
+}
+
 /* A thread that serves a call within its own reads nothing ahead, whatever it says. */
 static bool rings_doorbells(hullpippin_live *live)
 {
@@ -134,10 +143,12 @@ static bool has_none(hullpippin_live *live)
     return refuses_seats(live, FIRST) && tells(live, NOTHING) && is_settled(live);
 }
 
+/* The first who is to be looked at has memory asked for: where that is refused, all are looked at, in another order. */
 static bool has_all(hullpippin_live *live)
 {
-    return refuses_seats(live, SEATS)
-           && is(hullpippin_bridge_wait(live, FIRST, ROOM, 2) == HULLPIPPIN_NO_SUCH_REQUEST, "a word that is no flag says something")
+    return refuses_seats(live, SEATS) && is_done(hullpippin_bridge_give_doorbell(live, FIRST)) && is_settled(live)
+           && is_done(hullpippin_bridge_stop_waiting(live, FIRST))
+           && is(hullpippin_bridge_wait(live, FIRST, ROOM, 3) == HULLPIPPIN_NO_SUCH_REQUEST, "a word that is none says something")
            && is_settled(live);
 }
 
@@ -145,7 +156,8 @@ int main(void)
 {
     hullpippin_live alone = HULLPIPPIN_NO_LIVE, live = HULLPIPPIN_NO_LIVE;
     bool done = comes(hullpippin_live_new, &alone) && forgets(&alone) && has_none(&alone) && comes(hullpippin_bridge_new, &live)
-                && has_all(&live) && wakes_both(&live) && defers(&live) && rings_doorbells(&live) && is_interrupted(&live) && stays_away(&live);
+                && has_all(&live) && wakes_both(&live) && defers(&live) && leaves(&live)
+                && rings_doorbells(&live) && is_interrupted(&live) && stays_away(&live);
     hullpippin_free_live(&alone);
     hullpippin_free_live(&live);
     if (!done)

@@ -89,7 +89,8 @@ static void print_counts(const struct ring_heading *ring, const char *device)
     print_numbers(HULLPIPPIN_TEXT_NOTE, "N", counts->notes);
     printf("turns: %llu, the longest of %llu steps; one client has waited for %llu\n", (unsigned long long)get(&counts->turns),
            (unsigned long long)get(&counts->longest_turn), (unsigned long long)get(&counts->longest_wait));
-    printf("looks: %llu\nbytes of parcels: %llu\n", (unsigned long long)get(&counts->looks), (unsigned long long)get(&counts->copied));
+    printf("looks: %llu; %llu left to be looked at in %llu seconds of rest\nbytes of parcels: %llu\n", (unsigned long long)get(&counts->looks),
+           (unsigned long long)get(&ring->left_idle), (unsigned long long)get(&ring->rests), (unsigned long long)get(&counts->copied));
     printf("longest turn: %llu us of the processor's time; by which clients come: %llu us; by which they end: %llu us\n",
            (unsigned long long)get(&counts->longest_time) / 1000, (unsigned long long)get(&counts->longest_open) / 1000,
            (unsigned long long)get(&counts->longest_end) / 1000);

@@ -88,7 +88,7 @@ static bool calls_own_manager(const struct run *run, const struct binder_transac
 static bool may_fit(const struct target *target, const struct binder_transaction_data_sg *record, bool is_reply)
 {
     const struct binder_transaction_data *data = &record->transaction_data;
-    uint64_t room = reach_window(target, is_reply, data->target.handle);
+    uint64_t room = target_window(target, is_reply, data->target.handle);
     if (!is_reply && data->flags & TF_ONE_WAY)
         room /= 2;
     return data->data_size <= room && data->offsets_size <= room && record->buffers_size <= room
@@ -151,8 +151,8 @@ static int run_call(struct run *run, uint32_t code, const uint8_t *payload)
     read_record(&record, code, payload);
     if (!is_reply && calls_own_manager(run, &record.transaction_data))
         record.transaction_data.target.handle = NO_HANDLE;
-    parcel.may_have_descriptors = run->fd_count && reach_takes_descriptors(run->thread, is_reply, record.transaction_data.target.handle);
-    struct target target = reach_target(run->thread, is_reply, record.transaction_data.target.handle);
+    parcel.may_have_descriptors = run->fd_count && target_takes_descriptors(run->thread, is_reply, record.transaction_data.target.handle);
+    struct target target = target_of(run->thread, is_reply, record.transaction_data.target.handle);
     bool may = may_fit(&target, &record, is_reply);
     if (may && !turns_may_make(&run->engine->loop.turns, price_of(&record)))
         return PUT_OFF;
@@ -227,10 +227,10 @@ static bool has_room(struct cleared *cleared)
     if (cleared->count < cleared->room)
         return true;
     uint32_t room = cleared->room ? 2 * cleared->room : 16;
-    binder_uintptr_t *cookies = room <= CLEARED_MOST ? realloc(cleared->cookies, room * sizeof *cookies) : NULL;
-    if (!cookies)
+    struct cleared_notification *all = room <= CLEARED_MOST ? realloc(cleared->all, room * sizeof *all) : NULL;
+    if (!all)
         return false;
-    *cleared = (struct cleared){cookies, cleared->count, room};
+    *cleared = (struct cleared){all, cleared->count, room};
     return true;
 }
 
@@ -242,16 +242,17 @@ static bool has_room(struct cleared *cleared)
 static int clear_for_process(struct run *run, const uint8_t *command, uint32_t size)
 {
     struct process *process = run->thread->process;
-    binder_uintptr_t cookie;
-    memcpy(&cookie, command + size - sizeof cookie, sizeof cookie);
+    struct cleared_notification notification;
+    memcpy(&notification.cookie, command + size - sizeof notification.cookie, sizeof notification.cookie);
     int error = has_room(&process->cleared) ? process_enter(process) : ENOMEM;
     if (error)
         return error;
     error = engine_command(run->engine, OWN_SEAT, command, size);
+    notification.place = run->engine->answer.from;
     bool is_told = !error && hullpippin_live_ready(&run->engine->live, OWN_SEAT);
     int left = process_leave(process);
     if (is_told)
-        returns_clear(process, cookie);
+        returns_clear(process, notification);
     return error ? error : left;
 }
 

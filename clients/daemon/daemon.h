@@ -557,18 +557,12 @@ struct engine {
     bool uses_reserve;
     bool is_over;             /* it makes no step any more: it can't go on without memory */
 
-    /* Whom the steps since that was last settled may have made ready (reach.c). */
-    uint32_t unasked;         /* steps that may have filled lists since the engine was last asked .. */
-    bool has_read;            /* .. and whether one has emptied some */
-    struct list reached;      /* processes that are to be looked at .. */
-    struct list reached_threads; /* .. and threads */
-    struct thread *acting;    /* whose request is being answered: it is looked at behind all others, also where no step names it */
-    struct list deferring;    /* callers that wait, whose list has the completion of their call still */
-    uint32_t deferring_count;
-    struct list resting;      /* all processes with threads that wait for whatever comes to the process */
-    struct list looked_at;    /* all threads that are looked at one by one (settle.c) */
-    uint32_t resting_count, looked_at_count;
-    uint32_t resting_left, looked_at_left; /* how many of these are still to be looked at, from the first on */
+    bool is_left;             /* the bridge may have somebody to look at */
+    uint64_t rests;           /* how often nothing had come for a second .. */
+    uint64_t left_idle;       /* .. and how many there were to be looked at then: none, as far as that is right */
+    struct list woken;        /* threads whose reads are answered once the doorbells of their process are right */
+    struct list touched;      /* .. to which another's read has brought something */
+    struct list clearing;     /* processes for which death notifications were taken back */
     uint64_t steps, looks;
     uint64_t before; /* steps that earlier engines of the device have made */
     uint64_t copied, trimmed; /* bytes of parcels: all, and those after which memory was last given back */
@@ -591,7 +585,7 @@ struct engine {
     struct list processes;
     struct list by_pid[256];  /* processes by the pid that they have in the engine */
     uint32_t last_pid;        /* of those that are given where a process's own is taken */
-    struct process *by_place[LATEST_PLACES]; /* some, by the place of the step that has opened them (reach.c) */
+    struct process *by_place[LATEST_PLACES]; /* some, by the place of the step that has opened them (targets.c) */
 };
 
 /* Where nobody has the device open, and no journal is kept of it, it begins anew: no history, and no memory, is left of who has gone. */
@@ -633,6 +627,8 @@ int engine_exit_thread(struct engine *engine, uint32_t seat);
 int engine_exit_process(struct engine *engine, uint32_t seat);
 int engine_read(struct engine *engine, uint32_t seat, uint32_t limit);
 int engine_command(struct engine *engine, uint32_t seat, const void *command, size_t size);
+/* Has the bridge look at one of those who wait. Where it has made a read for it, that is the step. */
+int engine_look(struct engine *engine, hullpippin_signal *signal);
 /* No step, for a command of which it is known that it changes nothing: the answer is one that says so. */
 int engine_pass(struct engine *engine);
 /* A transaction or reply, with its parcel, and where it goes. */
@@ -754,14 +750,20 @@ void kept_free(struct process *process);
 
 /* --- processes.c: an open file is a process. --- */
 
-/* Cookies of death notifications that were taken back, of which whoever of the process reads next in the loop is told. */
-struct cleared {
-    binder_uintptr_t *cookies;
-    uint32_t count, room;
-};
-
 /* A place in the history, as the library has it. */
 typedef __typeof__(((hullpippin_answer *)0)->from) place_number;
+
+/* A death notification that a step took back. */
+struct cleared_notification {
+    binder_uintptr_t cookie;
+    place_number place; /* of that step */
+};
+
+/* Those of which whoever of the process reads next in the loop is told, oldest first. */
+struct cleared {
+    struct cleared_notification *all;
+    uint32_t count, room;
+};
 
 /* How far a process that ends has given back what it has (ends.c). */
 struct giving {
@@ -786,9 +788,12 @@ struct process {
     bool is_refused;      /* its user or process has its share of descriptors already, and it is told so */
     struct list in_engine, in_bucket;
     struct list threads;
-    struct list idle, polling; /* some of its threads (settle.c), of the latter those first whose doorbells ring */
-    struct list senders;                /* what some of its threads have sent (sendings.c) */
-    struct list in_resting, in_reached;
+    struct list idle;          /* threads of which one is ready where another is, those first that read (waiting.c) .. */
+    struct thread *herald;     /* .. and the one of them that the bridge knows: the first */
+    bool rings;                /* .. whose doorbell would ring: that there is something for these */
+    uint32_t pollers;          /* threads that have doorbells */
+    struct list senders;       /* what some of its threads have sent (sendings.c) */
+    struct list in_clearing;
     bool is_ending;           /* it has no place in the engine any more, and its threads are let go of */
     uint32_t objects_let_go;  /* how often it has let go of what may have carried objects */
     pid_t pid;
@@ -864,7 +869,6 @@ struct landing {
 /* A write that takes more than one turn. */
 struct writing {
     struct page_request request;
-    uint32_t calling; /* how many calls the thread waited for before it */
     uint32_t fd_count;
     int fds[DESCRIPTORS_MAX];
     uint8_t stream[PAGE_STREAM];
@@ -887,8 +891,7 @@ struct thread {
     struct watch link, bell;
     uint32_t in_flight;        /* descriptors in the link that it may not have taken */
     struct process *process;
-    struct list in_process, in_watch, in_reached, in_polling, in_seatless, in_deferring;
-    bool is_counted;           /* among those that are looked at one by one */
+    struct list in_process, in_idle, in_woken, in_touched, in_seatless;
     struct page *page;         /* PAGE_MAPPED bytes of it are mapped .. */
     int memory;                /* .. and the rest is read from here */
     uint32_t freed;            /* how many of the page's frees were seen to */
@@ -911,9 +914,10 @@ struct thread {
 
     bool is_waiting;           /* it waits in a read for something to come */
     bool has_no_room;          /* .. in which no return finds room, and there is one */
-    bool defers;               /* .. after a call, whose completion waits for the reply */
-    bool has_reply;            /* .. and stands before something else on the thread's list, where that was left there */
     uint32_t room;             /* how many bytes of returns that read has room for */
+    uint32_t told;             /* what the bridge knows of it (waiting.c) .. */
+    uint32_t limit, defers;    /* .. of its read: with which limit it is made, and what it need not be told before a reply */
+    bool rings;                /* what the bridge has told its bell */
     struct page_answer answer; /* what its request has come to so far */
 
     int doorbell, doorbell_end; /* ours and the client's; -1: it has none */
@@ -996,10 +1000,18 @@ void parcel_place(struct thread *thread, uint32_t count);
 
 /* --- returns.c: the read of a BINDER_WRITE_READ. --- */
 
-/* Whether the thread has something to be handed over. */
+/* Whether the thread has something to be handed over .. */
 bool returns_are_there(const struct thread *thread);
+/* .. and, of its own, all of it that is to be handed over together. */
+bool returns_are_whole(const struct thread *thread);
+/* With which limit the engine may read for the thread. */
+uint32_t returns_limit(const struct thread *thread);
+/* Whether its read has room for a return, or may not come back without one. */
+bool returns_find_room(const struct thread *thread);
 /* Reads once from the engine: 0 or an errno. */
 int returns_fetch(struct thread *thread);
+/* Takes what the engine's latest read has got, which was for the thread: 0, or EAGAIN where that was nothing. */
+int returns_take(struct thread *thread);
 /* Reads the next of what a two-way call has left, up to its completion, which waits for the reply; EAGAIN where that was read. */
 int returns_fetch_deferred(struct thread *thread);
 /* Whether the engine still has what the thread's calls and replies have left. */
@@ -1009,35 +1021,20 @@ int returns_fetch_sent(struct thread *thread);
 /* Answers the thread's read with what is there. */
 void returns_deliver(struct thread *thread);
 /* The process is to be told of one death notification more, for which there is room; who waits there is told as it is settled. */
-void returns_clear(struct process *process, binder_uintptr_t cookie);
+void returns_clear(struct process *process, struct cleared_notification notification);
 
-/* --- reach.c: whom the engine's steps have reached. --- */
+/* --- targets.c: who gets a call or a reply. --- */
 
-/* The one comes before each step of a seat, the other follows it. */
-void reach_before_step(struct engine *engine, bool is_read);
-void reach_after_step(struct engine *engine, uint32_t seat, bool is_read);
-/* Asks the engine, and then whether somebody is to be looked at. It stays out of where nothing is to be asked. */
-__attribute__((noinline)) bool reach_ask(struct engine *engine);
-/* Whether somebody is to be looked at whom the steps have reached. */
-static inline bool reach_is_left(struct engine *engine)
-{
-    if (!list_is_empty(&engine->reached_threads) || !list_is_empty(&engine->reached))
-        return true;
-    return engine->unasked && reach_ask(engine);
-}
-/* The thread, or who waits for what comes to the process, is to be looked at; NULL: nobody. */
-void reach_thread(struct thread *thread);
-void reach_process(struct process *process);
-/* It has ended in the engine. */
-void reach_forget(const struct process *process);
+/* The process has ended in the engine. */
+void target_forget(const struct process *process);
 /* Where the thread's next call or reply goes. */
-struct target reach_target(const struct thread *thread, bool is_reply, uint32_t handle);
+struct target target_of(const struct thread *thread, bool is_reply, uint32_t handle);
 /* The size of the window that it goes to: the largest where that isn't known. */
-uint64_t reach_window(const struct target *target, bool is_reply, uint32_t handle);
+uint64_t target_window(const struct target *target, bool is_reply, uint32_t handle);
 /* Whether who gets the thread's next call or reply takes descriptors with it, as far as that is known. */
-bool reach_takes_descriptors(const struct thread *thread, bool is_reply, uint32_t handle);
+bool target_takes_descriptors(const struct thread *thread, bool is_reply, uint32_t handle);
 /* The thread serves one call more, of these flags; its caller is a process, or isn't known. */
-void reach_note_served(struct thread *thread, const struct process *caller, uint32_t flags);
+void target_note_served(struct thread *thread, const struct process *caller, uint32_t flags);
 
 /* --- sendings.c: who of a process is told of an object that it sends. --- */
 
@@ -1050,34 +1047,35 @@ void sendings_sort(struct thread *thread);
 /* The thread has read that all was taken that it has sent, or sends nothing more. */
 void sendings_end(struct thread *thread);
 
-/* --- settle.c: answers whom a step has made ready. --- */
+/* --- waiting.c: tells the bridge who waits. --- */
 
-/* Puts the thread where it belongs by what it waits for; follows each change of that. */
-void settle_watch(struct thread *thread);
-void settle_forget(struct thread *thread);
-/* The completion of its call isn't on the thread's list any more .. */
-void settle_defer_no_more(struct thread *thread);
-/* .. or is read now, since the thread doesn't wait for the reply any more. */
-void settle_interrupted(struct thread *thread);
-/* Whether there is something behind the completion that a thread has left on its list: the reply, or what it is told besides. */
-bool settle_has_reply(struct thread *thread);
-/* Nobody waits for what comes to the process any more. */
-void settle_end(struct process *process);
-/* Answers the reads that can be answered, and puts all doorbells right. Follows each request that makes steps; the
-   thread that has made them, if there is one, comes last. */
-void settle(struct engine *engine, struct thread *acting);
-/* Whether some are still to be looked at. */
-bool settle_is_left(struct engine *engine);
-/* Looks at some of them: false where none are left. */
+/* Has the bridge know how the thread waits; follows each change of that. 0, or ENOMEM: then it doesn't. */
+int waiting_note(struct thread *thread);
+/* Its read is answered, or is about to be. */
+void waiting_stop(struct thread *thread);
+/* The bridge has woken it: to that it waits in a read no more. */
+void waiting_woken(struct thread *thread);
+/* It is about to have no seat any more. */
+void waiting_forget(struct thread *thread);
+/* The thread of the process that reads next what comes to the process; NULL where none waits for it in a read. */
+struct thread *waiting_one(const struct process *process);
+/* Puts the thread's doorbell right by what the bridge has told .. */
+void waiting_ring(struct thread *thread);
+/* .. and those of all threads that get what comes to the process. */
+void waiting_ring_all(struct process *process, bool rings);
+/* The bridge has told that the thread's bell rings, or is silent .. */
+void waiting_hear(struct thread *thread, bool rings);
+/* .. which is to be told again, as if it had been silent. */
+void waiting_hear_anew(struct thread *thread);
+
+/* --- waking.c: does what the bridge tells. --- */
+
+/* Another thread's read has brought the thread something. */
+void settle_touch(struct thread *thread);
+/* Who gets what comes to the process is to be told of death notifications that were taken back. */
+void settle_clear(struct process *process);
+/* Answers reads, and puts doorbells right, as far as there is time for. Follows each request that makes steps. Whether somebody is left. */
 bool settle_some(struct engine *engine);
-/* A thread of the process that waits in a read for what comes to the process, and isn't this one; NULL where there is none. */
-struct thread *settle_waiting_one(struct process *process, const struct thread *but);
-/* Puts a thread's doorbell right. */
-void settle_doorbell(struct thread *thread);
-/* Settles the doorbells of all threads of a process .. */
-void settle_doorbells(struct process *process);
-/* .. or of those alone that ring, where it can only be that there is less to be read. */
-void settle_rung_doorbells(struct process *process);
 
 /* --- doorbells.c --- */
 

@@ -25,7 +25,7 @@ bool doorbell_make(struct thread *thread)
     thread->doorbell = ends[0];
     thread->doorbell_end = ends[1];
     thread->is_rung = false;
-    list_append(&thread->process->polling, &thread->in_polling);
+    thread->process->pollers++;
     return true;
 }
 
@@ -35,8 +35,6 @@ void doorbell_set(struct thread *thread, bool rings)
     if (thread->doorbell < 0 || thread->is_rung == rings)
         return;
     thread->is_rung = rings;
-    list_remove(&thread->in_polling);
-    list_append(rings ? thread->process->polling.next : &thread->process->polling, &thread->in_polling);
     ssize_t done = rings ? send(thread->doorbell, &byte, 1, MSG_DONTWAIT | MSG_NOSIGNAL)
                          : recv(thread->doorbell_end, &byte, 1, MSG_DONTWAIT);
     if (done != 1)
@@ -45,8 +43,10 @@ void doorbell_set(struct thread *thread, bool rings)
 
 void doorbell_free(struct thread *thread)
 {
-    if (thread->doorbell >= 0)
+    if (thread->doorbell >= 0) {
         account_give(thread->process->account, SHARED_DESCRIPTORS, DOORBELL_DESCRIPTORS);
+        thread->process->pollers--;
+    }
     descriptor_end(&thread->doorbell);
     descriptor_end(&thread->doorbell_end);
 }

@@ -39,19 +39,17 @@ struct engine *engine_new(struct daemon *daemon, struct device *device)
     engine->bench = bytes == MAP_FAILED ? NULL : bytes;
     snprintf(engine->device, sizeof engine->device, "%s", device->name);
     list_begin(&engine->processes);
-    list_begin(&engine->looked_at);
     list_begin(&engine->seatless);
-    list_begin(&engine->resting);
-    list_begin(&engine->reached);
-    list_begin(&engine->reached_threads);
-    list_begin(&engine->deferring);
+    list_begin(&engine->woken);
+    list_begin(&engine->touched);
+    list_begin(&engine->clearing);
     for (size_t i = 0; i < sizeof engine->by_pid / sizeof *engine->by_pid; i++)
         list_begin(&engine->by_pid[i]);
     if (!ring_make(&engine->ring, engine->device, daemon->seats))
         log_line("%s: there is no memory for the latest steps, and nobody can look at them", engine->device);
     tickets_begin(&engine->tickets);
     if (engine->bench && reserve_take(engine) && sent_all_begin(&engine->sent) && make_seats(engine, daemon->seats)
-        && hullpippin_live_new(engine->seats, &engine->live) == HULLPIPPIN_DONE && begin_journal(engine, device) && engine_start(engine))
+        && hullpippin_bridge_new(engine->seats, &engine->live) == HULLPIPPIN_DONE && begin_journal(engine, device) && engine_start(engine))
         return engine;
     engine_free(engine);
     return NULL;
@@ -111,9 +109,9 @@ void engine_begin_anew(struct engine *engine)
         return;
     engine->before += hullpippin_live_len(&engine->live);
     hullpippin_free_live(&engine->live);
-    if (hullpippin_live_new(engine->seats, &engine->live) != HULLPIPPIN_DONE) {
+    if (hullpippin_bridge_new(engine->seats, &engine->live) != HULLPIPPIN_DONE) {
         reserve_use(engine);
-        if (hullpippin_live_new(engine->seats, &engine->live) != HULLPIPPIN_DONE) {
+        if (hullpippin_bridge_new(engine->seats, &engine->live) != HULLPIPPIN_DONE) {
             engine_end(engine, "there is no memory for a new engine");
             return;
         }
@@ -180,21 +178,19 @@ static int stepped(struct engine *engine, const struct step *step, uint32_t stat
     count_step(engine);
     if (may_end_buffers(step))
         sent_see_ended(engine);
-    reach_after_step(engine, step->seat, step->kind == RING_READ);
+    engine->is_left = true; /* the bridge may have somebody to look at */
     return 0;
 }
 
 int engine_open(struct engine *engine, uint32_t seat, uint32_t pid, uint32_t euid, uint32_t window)
 {
     const struct step step = {.kind = RING_OPEN, .seat = seat, .pid = pid, .euid = euid, .window = window};
-    reach_before_step(engine, false);
     return stepped(engine, &step, hullpippin_live_open(&engine->live, seat, pid, euid, window, &engine->answer));
 }
 
 int engine_attach(struct engine *engine, uint32_t seat, uint32_t pid)
 {
     const struct step step = {.kind = RING_ATTACH, .seat = seat, .pid = pid};
-    reach_before_step(engine, false);
     return stepped(engine, &step, hullpippin_live_attach(&engine->live, seat, pid, &engine->answer));
 }
 
@@ -207,14 +203,12 @@ int engine_pass(struct engine *engine)
 int engine_set_manager(struct engine *engine, uint32_t seat)
 {
     const struct step step = {.kind = RING_SET_MANAGER, .seat = seat};
-    reach_before_step(engine, false);
     return stepped(engine, &step, hullpippin_live_manager(&engine->live, seat, &engine->answer));
 }
 
 int engine_set_spam(struct engine *engine, uint32_t seat, bool on)
 {
     const struct step step = {.kind = RING_SET_SPAM, .seat = seat, .on = on};
-    reach_before_step(engine, false);
     return stepped(engine, &step, hullpippin_live_set_spam(&engine->live, seat, on, &engine->answer));
 }
 
@@ -222,7 +216,6 @@ int engine_set_spam(struct engine *engine, uint32_t seat, bool on)
 int engine_exit_thread(struct engine *engine, uint32_t seat)
 {
     const struct step step = {.kind = RING_EXIT_THREAD, .seat = seat};
-    reach_before_step(engine, false);
     int error = stepped(engine, &step, hullpippin_live_exit_thread(&engine->live, seat, &engine->answer));
     if (!error && engine->lent[seat])
         engine->lent[seat]->process->objects_let_go++;
@@ -232,7 +225,6 @@ int engine_exit_thread(struct engine *engine, uint32_t seat)
 int engine_exit_process(struct engine *engine, uint32_t seat)
 {
     const struct step step = {.kind = RING_EXIT_PROCESS, .seat = seat};
-    reach_before_step(engine, false);
     return stepped(engine, &step, hullpippin_live_exit_process(&engine->live, seat, &engine->answer));
 }
 
@@ -246,16 +238,34 @@ static void fetch_returns(struct engine *engine, bool are_there)
 int engine_read(struct engine *engine, uint32_t seat, uint32_t limit)
 {
     const struct step step = {.kind = RING_READ, .seat = seat, .limit = limit};
-    reach_before_step(engine, true);
     uint32_t status = hullpippin_live_read(&engine->live, seat, limit, &engine->answer);
     fetch_returns(engine, status == HULLPIPPIN_DONE && engine->answer.kind == HULLPIPPIN_GOT);
     return stepped(engine, &step, status);
 }
 
+/* The bridge looks at so many in one call, where none of them is to be told anything. */
+#define LOOKS_OF_ONE_CALL 8u
+
+int engine_look(struct engine *engine, hullpippin_signal *signal)
+{
+    struct step step = {.kind = RING_READ};
+    int error = 0;
+    engine->looks++;
+    hullpippin_bridge_settle(&engine->live, LOOKS_OF_ONE_CALL, signal);
+    if (signal->kind == HULLPIPPIN_SIGNAL_READ) {
+        step.seat = signal->seat;
+        step.limit = engine->lent[signal->seat]->limit;
+        engine->answer = signal->answer;
+        fetch_returns(engine, signal->status == HULLPIPPIN_DONE && signal->answer.kind == HULLPIPPIN_GOT);
+        error = stepped(engine, &step, signal->status);
+    }
+    engine->is_left = signal->is_left;
+    return error;
+}
+
 int engine_command(struct engine *engine, uint32_t seat, const void *command, size_t size)
 {
     const struct step step = {.kind = RING_COMMAND, .seat = seat, .command = command};
-    reach_before_step(engine, false);
     return stepped(engine, &step, hullpippin_live_command(&engine->live, seat, command, size, HULLPIPPIN_NOWHERE, 0,
                                                          HULLPIPPIN_NOWHERE, 0, &engine->answer));
 }
@@ -264,7 +274,6 @@ int engine_call(struct engine *engine, uint32_t seat, const struct target *targe
                 size_t data_size, const uint8_t *offsets, size_t offsets_size)
 {
     const struct step step = {.kind = RING_COMMAND, .seat = seat, .command = command, .data = data, .data_size = data_size, .target = target};
-    reach_before_step(engine, false);
     return stepped(engine, &step, hullpippin_live_command(&engine->live, seat, command, size,
                                                          data_size ? data : HULLPIPPIN_NOWHERE, data_size,
                                                          offsets_size ? offsets : HULLPIPPIN_NOWHERE, offsets_size,

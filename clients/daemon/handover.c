@@ -82,7 +82,7 @@ static __attribute__((noinline)) bool see_to_rest(struct engine *engine)
 static bool between(void *context)
 {
     struct engine *engine = context;
-    bool has_more = (engine->is_over || settle_is_left(engine)) && see_to_rest(engine);
+    bool has_more = (engine->is_over || engine->is_left) && see_to_rest(engine);
     ring_put_turns(engine);
     return has_more;
 }
@@ -99,6 +99,8 @@ static void give_memory_back(struct engine *engine)
 static bool idle(void *context)
 {
     struct engine *engine = context;
+    engine->rests++;
+    engine->left_idle += hullpippin_bridge_suspects(&engine->live);
     seats_regain(engine);
     seats_refuse(engine);
     give_memory_back(engine);

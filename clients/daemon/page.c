@@ -57,10 +57,8 @@ static void answer_error(struct thread *thread, int error)
 
 void page_interrupt(struct thread *thread, int error)
 {
-    thread->is_waiting = false;
-    settle_interrupted(thread);
-    settle_watch(thread);
-    settle_doorbell(thread); /* its read may have taken the completion of a call, which isn't handed over yet */
+    waiting_stop(thread);
+    waiting_ring(thread);
     answer_error(thread, error);
 }
 
@@ -143,9 +141,6 @@ static int write_on(struct thread *thread, struct writing *writing)
     if (!error && request->room) {
         thread->is_waiting = true;
         thread->room = request->room;
-        /* it has made a call, and may be told of its completion together with the reply */
-        thread->defers = thread->calling > writing->calling && !thread->answer.refused && !thread->pending_size
-                         && !thread->is_prompt && !(request->flags & PAGE_NONBLOCK) && !is_to_return(thread);
     }
     return error;
 }
@@ -156,7 +151,6 @@ static int write_read(struct thread *thread, const struct page_request *request)
     if (request->stream_size > PAGE_STREAM || request->room > PAGE_RETURNS)
         return EINVAL;
     writing.request = *request;
-    writing.calling = thread->calling;
     int error = fetch_descriptors(thread, request->descriptors, writing.fds, &writing.fd_count);
     if (error)
         return error;
@@ -260,36 +254,6 @@ static bool free_buffers(struct thread *thread, uint32_t freed)
     return thread->freed == freed || error;
 }
 
-/* Answers a request that has come to this. All that its steps bring about for others comes before. A read that waits is
-   answered by what makes it ready. */
-static void answer_request(struct thread *thread, int error, uint32_t flags)
-{
-    bool reads = thread->is_waiting;
-    settle_watch(thread);
-    settle(thread->process->engine, thread);
-    if (error == UNDONE)
-        turns_want(&thread->process->engine->loop.turns, &thread->bell);
-    else if (!reads)
-        answer_error(thread, error);
-    else if (thread->is_waiting && is_to_return(thread))
-        returns_deliver(thread);
-    else if (thread->is_waiting && flags & PAGE_NONBLOCK)
-        page_interrupt(thread, EAGAIN);
-    else if (thread->is_waiting && atomic_load(&thread->page->cancel))
-        page_interrupt(thread, EINTR); /* its ring may have been one with that for the request */
-}
-
-static void go_on_writing(struct thread *thread)
-{
-    uint32_t flags = thread->writing->request.flags;
-    int error = write_on(thread, thread->writing);
-    if (error != UNDONE) {
-        free(thread->writing);
-        thread->writing = NULL;
-    }
-    answer_request(thread, error, flags);
-}
-
 /* A read comes back with what there is, which may be the completion of a call whose reply it waits for. */
 static void come_back(struct thread *thread)
 {
@@ -299,7 +263,7 @@ static void come_back(struct thread *thread)
         page_interrupt(thread, error);
     else
         returns_deliver(thread);
-    settle(engine, NULL);
+    settle_some(engine);
 }
 
 /* A thread that was interrupted while its request waits gets its answer. One that is to come back and has no seat yet waits for that. */
@@ -314,15 +278,97 @@ static void cancel(struct thread *thread)
         page_refuse(thread, EINTR);
 }
 
+static bool is_ready(struct thread *thread)
+{
+    struct engine *engine = thread->process->engine;
+    engine->looks++;
+    return hullpippin_live_ready(&engine->live, thread->seat);
+}
+
+/* Why the thread's read needs no waiting: it has something for sure; or what it has by now is to be told it, be it nothing. */
+enum at_once { WAITS, HAS_SOMETHING, COMES_BACK };
+
+/* Of what it has brought about itself it is known that it is there; who waits for a reply is the bridge's. */
+static enum at_once is_at_once(struct thread *thread, uint32_t flags)
+{
+    if (thread->is_prompt && thread->untold && !thread->pending_size)
+        return HAS_SOMETHING;
+    if (flags & PAGE_NONBLOCK || returns_are_there(thread) || is_to_return(thread))
+        return COMES_BACK;
+    return !thread->calling && is_ready(thread) ? HAS_SOMETHING : WAITS;
+}
+
+static int read_at_once(struct thread *thread, bool has_something)
+{
+    int error = has_something ? returns_fetch(thread) : 0;
+    while (!error && !returns_are_whole(thread) && is_ready(thread))
+        error = returns_fetch(thread);
+    return error == EAGAIN ? 0 : error;
+}
+
+/* The bridge is told of it once all others are seen to. */
+static int begin_to_wait(struct thread *thread)
+{
+    int error = waiting_note(thread);
+    if (error && !thread->is_waiting)
+        waiting_hear(thread, true); /* nobody would tell: it may look for itself */
+    if (thread->process->engine->is_left)
+        settle_some(thread->process->engine);
+    return error;
+}
+
+/* The read of one that needn't have waited is answered with what there is. If that is nothing, it waits all the same, if it may. */
+static void answer_at_once(struct thread *thread, uint32_t flags)
+{
+    if (returns_are_there(thread) || is_to_return(thread)) {
+        returns_deliver(thread);
+    } else if (flags & PAGE_NONBLOCK) {
+        page_interrupt(thread, EAGAIN);
+    } else if (begin_to_wait(thread)) {
+        page_interrupt(thread, ENOMEM);
+    }
+}
+
+/* Answers a request that has come to this. All that its steps bring about for others comes before. A read that waits is
+   answered by what makes it ready. */
+static void answer_request(struct thread *thread, int error, uint32_t flags)
+{
+    struct engine *engine = thread->process->engine;
+    bool reads = thread->is_waiting;
+    enum at_once at_once = reads ? is_at_once(thread, flags) : WAITS;
+    int why = at_once ? read_at_once(thread, at_once == HAS_SOMETHING) : 0;
+    settle_some(engine);
+    if (!at_once)
+        why = begin_to_wait(thread);
+    if (error == UNDONE)
+        turns_want(&engine->loop.turns, &thread->bell);
+    else if (!reads)
+        answer_error(thread, error);
+    else if (thread->is_waiting && why)
+        page_interrupt(thread, why);
+    else if (thread->is_waiting && at_once)
+        answer_at_once(thread, flags);
+    if (reads && thread->is_waiting && atomic_load(&thread->page->cancel))
+        cancel(thread); /* its ring may have been one with that for the request */
+}
+
+static void go_on_writing(struct thread *thread)
+{
+    uint32_t flags = thread->writing->request.flags;
+    int error = write_on(thread, thread->writing);
+    if (error != UNDONE) {
+        free(thread->writing);
+        thread->writing = NULL;
+    }
+    answer_request(thread, error, flags);
+}
+
 /* What is asked for, once the thread has a seat and has given back what it wanted to. */
 static void run_asked(struct thread *thread, const struct page_request *request)
 {
-    struct engine *engine = thread->process->engine;
     thread->answer = (struct page_answer){0};
-    engine->acting = thread;
     int error = do_request(thread, request);
     answer_request(thread, error, request->flags);
-    engine->acting = NULL;
 }
 
 void page_rung(struct thread *thread)
@@ -352,7 +398,7 @@ void page_rung(struct thread *thread)
             return;
         }
         if (!free_buffers(thread, freed)) {
-            settle(thread->process->engine, NULL);
+            settle_some(thread->process->engine);
             turns_want(&thread->process->engine->loop.turns, &thread->bell);
             return;
         }
@@ -360,5 +406,5 @@ void page_rung(struct thread *thread)
     if (is_asked)
         run_asked(thread, &request);
     else
-        settle(thread->process->engine, NULL);
+        settle_some(thread->process->engine);
 }

@@ -535,10 +535,8 @@ void process_accept(struct daemon *daemon, int fd)
     list_begin(&process->in_bucket);
     list_begin(&process->threads);
     list_begin(&process->idle);
-    list_begin(&process->polling);
     list_begin(&process->senders);
-    list_begin(&process->in_resting);
-    list_begin(&process->in_reached);
+    list_begin(&process->in_clearing);
     if (join_loop(process, &daemon->loop))
         return;
     if (process->client)
@@ -572,7 +570,7 @@ static void exit_in_engine(struct process *process)
     }
     if (engine->manager == process)
         engine->manager = NULL;
-    reach_forget(process);
+    target_forget(process);
     list_remove(&process->in_bucket);
 }
 
@@ -590,7 +588,7 @@ static void let_go(struct process *process)
     window_free(&process->window);
     free(process->handed);
     free(process->secret);
-    free(process->cleared.cookies);
+    free(process->cleared.all);
     free(process);
 }
 
@@ -623,15 +621,14 @@ void process_end(struct process *process)
     bool was_open = process->engine_pid && !process->is_ending;
     if (was_open && (!end_most_threads(process) || !ends_give_some(process))) {
         turns_want_end(&process->loop->turns, &process->control);
-        settle(engine, NULL);
+        settle_some(engine);
         seats_retry(engine);
         return;
     }
     if (was_open)
         exit_in_engine(process);
     process->is_ending = true;
-    if (engine)
-        settle_end(process);
+    list_remove(&process->in_clearing);
     if (free_threads(process)) {
         let_go(process);
         descriptors_close_for(NULL);
@@ -641,7 +638,7 @@ void process_end(struct process *process)
     if (was_open)
         reserve_regain(engine);
     if (was_open)
-        settle(engine, NULL);
+        settle_some(engine);
     if (engine)
         seats_retry(engine);
 }

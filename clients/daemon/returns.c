@@ -8,16 +8,36 @@
 #include <errno.h>
 #include <string.h>
 
-/* Whether it gets what comes to its process. */
+/* Whether it gets what comes to its process. As in the kernel a read that gets something of its own gets nothing of that. */
 static bool reads_for_process(const struct thread *thread)
 {
-    return thread->is_looper && !thread->serving && !thread->calling;
+    hullpippin_work own;
+    return thread->is_looper && !thread->serving && !thread->calling && !returns_are_left(thread)
+           && !hullpippin_live_unread_of_thread(&thread->process->engine->live, thread->seat, 0, &own);
+}
+
+/* What a process has taken back stands on its list among all else, in the order of the steps. */
+static bool is_next(struct process *process, const struct cleared_notification *notification)
+{
+    hullpippin_work oldest;
+    return !hullpippin_live_unread_of_process(&process->engine->live, process->opened, 0, &oldest) || oldest.place > notification->place;
+}
+
+static bool has_cleared(const struct thread *thread)
+{
+    struct process *process = thread->process;
+    return process->cleared.count && reads_for_process(thread) && is_next(process, process->cleared.all);
+}
+
+bool returns_are_whole(const struct thread *thread)
+{
+    bool are_there = (thread->pending_size && thread->is_prompt) || thread->has_no_room;
+    return are_there && !(thread->is_behind && returns_are_left(thread));
 }
 
 bool returns_are_there(const struct thread *thread)
 {
-    return (thread->pending_size && thread->is_prompt) || thread->has_no_room
-           || (thread->process->cleared.count && reads_for_process(thread));
+    return (thread->pending_size && thread->is_prompt) || thread->has_no_room || has_cleared(thread);
 }
 
 /* Appends a return to the pending ones. There is room: it was left by the limit of the read. */
@@ -38,7 +58,7 @@ static void take_call(struct thread *thread, uint8_t *bytes, bool is_reply)
     memcpy(bytes, &record, sizeof record);
     if (!is_reply && !(record.flags & TF_ONE_WAY)) {
         thread->serving++;
-        reach_note_served(thread, sender, record.flags);
+        target_note_served(thread, sender, record.flags);
     }
     if (is_reply && thread->calling)
         thread->calling--;
@@ -79,35 +99,94 @@ static void take_return(struct thread *thread, uint8_t *bytes, uint32_t size)
     append(thread, bytes, size);
 }
 
-static int fetch(struct thread *thread, uint32_t limit)
+/* Appends what the process is to be told next, where nothing of the thread's own is pending. */
+static void take_cleared(struct thread *thread)
 {
-    struct engine *engine = thread->process->engine;
-    if (thread->pending_size + limit > sizeof thread->pending)
-        return ENOBUFS;
-    int error = engine_read(engine, thread->seat, limit);
-    if (!error && engine->answer.kind != HULLPIPPIN_GOT)
-        thread->clearings = 0; /* nothing is left to be read of it */
-    if (error || engine->answer.kind != HULLPIPPIN_GOT)
-        return error ? error : EAGAIN;
-    settle_defer_no_more(thread);
-    for (uint32_t at = 0; at + sizeof(uint32_t) <= engine->returns_size;) {
+    struct cleared *cleared = &thread->process->cleared;
+    struct {
         uint32_t code;
-        memcpy(&code, engine->returns + at, sizeof code);
+        binder_uintptr_t cookie;
+    } __attribute__((packed)) done = {.code = BR_CLEAR_DEATH_NOTIFICATION_DONE};
+    uint32_t taken = 0;
+    if (thread->pending_size || !has_cleared(thread))
+        return;
+    for (; taken < cleared->count && thread->pending_size + RETURN_ROOM + sizeof(uint32_t) <= thread->room
+           && is_next(thread->process, &cleared->all[taken]); taken++) {
+        done.cookie = cleared->all[taken].cookie;
+        append(thread, (const uint8_t *)&done, sizeof done);
+        thread->is_prompt = true;
+    }
+    cleared->count -= taken;
+    memmove(cleared->all, cleared->all + taken, cleared->count * sizeof *cleared->all);
+}
+
+/* What the engine's latest read, which was for the thread, has got: 0, or EAGAIN where that was nothing. */
+static int take(struct thread *thread, uint8_t *returns, uint32_t size, bool is_something)
+{
+    if (!is_something) {
+        thread->clearings = 0; /* nothing is left to be read of it */
+        return EAGAIN;
+    }
+    if (thread->process->cleared.count)
+        settle_clear(thread->process); /* what stood before the first of them may have been this */
+    for (uint32_t at = 0; at + sizeof(uint32_t) <= size;) {
+        uint32_t code;
+        memcpy(&code, returns + at, sizeof code);
         uint32_t length = sizeof code + _IOC_SIZE(code);
-        take_return(thread, engine->returns + at, length);
+        take_return(thread, returns + at, length);
         at += length;
     }
     sendings_sort(thread);
     return 0;
 }
 
+static int fetch(struct thread *thread, uint32_t limit)
+{
+    struct engine *engine = thread->process->engine;
+    if (thread->pending_size + limit > sizeof thread->pending)
+        return ENOBUFS;
+    int error = engine_read(engine, thread->seat, limit);
+    return error ? error : take(thread, engine->returns, engine->returns_size, engine->answer.kind == HULLPIPPIN_GOT);
+}
+
+uint32_t returns_limit(const struct thread *thread)
+{
+    uint32_t used = thread->pending_size + RETURN_ROOM - (READ_LEAST - sizeof(uint32_t));
+    return thread->room > used + READ_LEAST ? thread->room - used : READ_LEAST;
+}
+
+/* What there is may be another's, who has room. */
+bool returns_find_room(const struct thread *thread)
+{
+    return thread->room >= sizeof(uint32_t) + RETURN_ROOM || thread->calling;
+}
+
 int returns_fetch(struct thread *thread)
 {
     sendings_gather(thread);
-    uint32_t used = thread->pending_size + RETURN_ROOM - (READ_LEAST - sizeof(uint32_t));
-    uint32_t limit = thread->room > used + READ_LEAST ? thread->room - used : READ_LEAST;
-    thread->has_no_room = thread->room < sizeof(uint32_t) + RETURN_ROOM && !thread->calling;
-    return thread->has_no_room ? 0 : fetch(thread, limit); /* what there is may be another's, who has room */
+    take_cleared(thread);
+    thread->has_no_room = !returns_find_room(thread);
+    return thread->has_no_room ? 0 : fetch(thread, returns_limit(thread));
+}
+
+/* What others' reads bring for the thread stands before, and is read by steps of its own. */
+static __attribute__((noinline)) int take_behind_others(struct thread *thread)
+{
+    struct engine *engine = thread->process->engine;
+    uint8_t returns[PAGE_RETURNS];
+    uint32_t size = engine->returns_size;
+    bool is_something = engine->answer.kind == HULLPIPPIN_GOT;
+    memcpy(returns, engine->returns, size);
+    sendings_gather(thread);
+    return take(thread, returns, size, is_something);
+}
+
+int returns_take(struct thread *thread)
+{
+    struct engine *engine = thread->process->engine;
+    if (thread->sendings)
+        return take_behind_others(thread);
+    return take(thread, engine->returns, engine->returns_size, engine->answer.kind == HULLPIPPIN_GOT);
 }
 
 /* The least limit leaves no room for the reply behind anything else. */
@@ -148,7 +227,7 @@ int returns_fetch_sent(struct thread *thread)
 static bool wants_looper(const struct thread *thread)
 {
     struct process *process = thread->process;
-    if (!thread->is_looper || process->requested || process->started >= process->max_threads || settle_waiting_one(process, thread))
+    if (!thread->is_looper || process->requested || process->started >= process->max_threads || waiting_one(process))
         return false;
     process->requested++;
     return true;
@@ -199,27 +278,6 @@ static uint32_t fitting(struct thread *thread, uint32_t room)
     return size;
 }
 
-/* What the process is to be told stands behind what the thread is. */
-static void take_cleared(struct thread *thread)
-{
-    struct cleared *cleared = &thread->process->cleared;
-    struct {
-        uint32_t code;
-        binder_uintptr_t cookie;
-    } __attribute__((packed)) done = {.code = BR_CLEAR_DEATH_NOTIFICATION_DONE};
-    uint32_t taken = 0;
-    if (!reads_for_process(thread))
-        return;
-    for (; taken < cleared->count && thread->pending_size + RETURN_ROOM <= thread->room - sizeof(uint32_t); taken++) {
-        done.cookie = cleared->cookies[taken];
-        append(thread, (const uint8_t *)&done, sizeof done);
-    }
-    if (!taken)
-        return;
-    cleared->count -= taken;
-    memmove(cleared->cookies, cleared->cookies + taken, cleared->count * sizeof *cleared->cookies);
-}
-
 /* Whether there is more that doesn't wait for a reply: without a call of its own that is each completion that it hasn't been told. */
 static bool has_more(const struct thread *thread)
 {
@@ -227,11 +285,11 @@ static bool has_more(const struct thread *thread)
     return thread->has_no_room || is_left;
 }
 
-/* What fits is handed over, behind BR_NOOP. The doorbells of the process, some of whose work this may have been, are
-   right before. */
+/* What fits is handed over, behind BR_NOOP. */
 void returns_deliver(struct thread *thread)
 {
     uint32_t first = BR_NOOP, size = 0;
+    waiting_stop(thread);
     if (thread->room >= sizeof first) {
         take_cleared(thread);
         size = fitting(thread, thread->room - sizeof first);
@@ -244,15 +302,13 @@ void returns_deliver(struct thread *thread)
         size += sizeof first;
     }
     thread->is_prompt = thread->pending_size || (thread->is_prompt && has_more(thread));
-    thread->is_waiting = thread->has_no_room = thread->is_behind = false;
-    settle_watch(thread);
-    settle_doorbell(thread);
-    settle_rung_doorbells(thread->process);
+    thread->has_no_room = thread->is_behind = false;
+    waiting_ring(thread);
     page_answer(thread, size);
 }
 
-void returns_clear(struct process *process, binder_uintptr_t cookie)
+void returns_clear(struct process *process, struct cleared_notification notification)
 {
-    process->cleared.cookies[process->cleared.count++] = cookie;
-    reach_process(process);
+    process->cleared.all[process->cleared.count++] = notification;
+    settle_clear(process);
 }

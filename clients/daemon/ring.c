@@ -260,6 +260,8 @@ void ring_put_turns(struct engine *engine)
     set(&counts->longest_turn, turns->longest_turn);
     set(&counts->longest_wait, turns->longest_wait);
     set(&counts->looks, engine->looks);
+    set(&engine->ring.heading->rests, engine->rests);
+    set(&engine->ring.heading->left_idle, engine->left_idle);
     set(&counts->copied, engine->copied);
     set(&counts->longest_time, atomic_load_explicit(&turns->longest_time, memory_order_relaxed));
     set(&counts->costly_time, turns->costly_time);

@@ -26,14 +26,13 @@ static void take_away(struct thread *thread)
 {
     note(thread->process->engine, thread->seat, NULL);
     count_lent(thread->process->engine, false);
+    waiting_forget(thread);
     thread->seat = NO_SEAT;
     thread->is_looper = false;
     thread->serving = thread->calling = thread->refusals = thread->completions = thread->untold = thread->clearings = 0;
     thread->refusal = NOT_REFUSED;
     sendings_end(thread);
-    settle_defer_no_more(thread);
     doorbell_set(thread, false);
-    settle_watch(thread);
 }
 
 static void put_back(struct thread *thread)
@@ -142,7 +141,7 @@ void seats_regain(struct engine *engine)
     if (engine->lost_count == lost)
         return;
     log_line("%s: %u lost seats are back", engine->device, lost - engine->lost_count);
-    settle(engine, NULL);
+    settle_some(engine);
     seats_retry(engine);
 }
 

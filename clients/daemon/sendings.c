@@ -172,7 +172,7 @@ static void hand_over(struct sendings *sendings)
         struct thread *other = code ? told_instead(sendings, ptr) : NULL;
         if (other) {
             other->is_behind = true;
-            reach_thread(other);
+            settle_touch(other);
             move_to(thread, at, other, other->pending_size);
             continue;
         }
@@ -196,7 +196,7 @@ static bool has_sent_for(struct sendings *sendings, struct sendings *other)
 static void fetch_for(struct thread *thread)
 {
     returns_fetch_sent(thread);
-    reach_thread(thread);
+    settle_touch(thread);
 }
 
 void sendings_gather(struct thread *thread)

@@ -48,7 +48,7 @@ static void link_ready(struct watch *watch)
         return;
     }
     thread_end(thread);
-    settle(engine, NULL);
+    settle_some(engine);
     seats_retry(engine);
 }
 
@@ -117,11 +117,10 @@ static struct thread *new_thread(struct process *process, uint64_t tid, const st
     thread->seat = NO_SEAT;
     thread->doorbell = thread->doorbell_end = -1;
     list_append(&process->threads, &thread->in_process);
-    list_begin(&thread->in_watch);
-    list_begin(&thread->in_reached);
-    list_begin(&thread->in_polling);
+    list_begin(&thread->in_idle);
+    list_begin(&thread->in_woken);
+    list_begin(&thread->in_touched);
     list_begin(&thread->in_seatless);
-    list_begin(&thread->in_deferring);
     process->thread_count++;
     return thread;
 }
@@ -214,7 +213,8 @@ void thread_free(struct thread *thread)
     loop_drop(loop, &thread->bell);
     munmap(thread->page, PAGE_MAPPED);
     descriptor_close(&thread->memory);
-    settle_forget(thread);
+    list_remove(&thread->in_woken);
+    list_remove(&thread->in_touched);
     list_remove(&thread->in_seatless);
     list_remove(&thread->in_process);
     owed_end(thread);

@@ -56,6 +56,22 @@ def turns_given(stage, build):
     return int(re.search(r"^turns: (\d+)", stats(stage, build), re.M)[1])
 
 
+def rested(stage, build):
+    """How many threads were to be looked at while nothing came, and how often that was."""
+    return [int(it) for it in re.search(r"; (\d+) left to be looked at in (\d+) seconds of rest", stats(stage, build)).groups()]
+
+
+@test("raw nobody left")
+def nobody_left(build):
+    """Nobody is still to be looked at while nothing comes, whoever waits."""
+    with Stage(build) as stage:
+        stage.start([build.raw("asleep"), "40"]).wait_for("ready", 30)
+        expect(comes(lambda: rested(stage, build)[1] > 0, 30), "the daemon doesn't rest")
+        left, rests = rested(stage, build)
+    expect(left == 0, f"{left} threads were still to be looked at while nothing came, in {rests} seconds")
+    return f"nobody in {rests} seconds of rest"
+
+
 # so many turns whoever asks for what it isn't to have is given before it's looked at what comes of that
 MANY_TURNS = 1000
 

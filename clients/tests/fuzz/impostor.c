@@ -180,8 +180,8 @@ static int turn(int tells, int told_to)
 static void attack_by_turning(char *program, int64_t who[2])
 {
     struct hostile hostile;
-    int tells[2], told_to[2];
-    CHECK(!pipe(tells) && !pipe(told_to), "no pipes");
+    int tells[2], told_to[2], results[2];
+    CHECK(!pipe(tells) && !pipe(told_to) && !pipe(results), "no pipes");
     pid_t opener = fork();
     if (!opener) {
         char numbers[2][16];
@@ -193,9 +193,10 @@ static void attack_by_turning(char *program, int64_t who[2])
             for (int i = 0; i < 2; i++) {
                 await(tells[0]);
                 who[i] = told(&hostile);
+                /* told to go on, the opener may end, and this with it */
+                CHECK(write(results[1], &who[i], sizeof *who) == sizeof *who, "nobody waits for the result");
                 go(told_to[1]);
             }
-            CHECK(write(told_to[1], who, 2 * sizeof *who) == 2 * sizeof *who, "nobody waits for the result");
             _exit(0);
         }
         snprintf(numbers[0], sizeof numbers[0], "%d", tells[1]);
@@ -204,7 +205,7 @@ static void attack_by_turning(char *program, int64_t who[2])
         _exit(1);
     }
     CHECK(waitpid(opener, NULL, 0) == opener, "the opener hasn't ended");
-    CHECK(read(told_to[0], who, 2 * sizeof *who) == 2 * sizeof *who, "the accomplice told nothing");
+    CHECK(read(results[0], who, 2 * sizeof *who) == 2 * sizeof *who, "the accomplice told nothing");
 }
 
 int main(int argc, char **argv)

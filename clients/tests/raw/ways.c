@@ -2,8 +2,9 @@
 /*
  * ways: small ways of Linux's driver. A two-way call leaves nothing to be read or polled before its reply, also where it carries
  * an object, or a death notification was to be taken back before that wasn't there; a thread that never was in the loop isn't told that
- * a death notification was taken back, but another of its process is, which waits, or polls, or comes later, and hears of its own
- * one-way call all the same; the manager can't have a reference on itself. And a reply comes, however much its call's write goes on with.
+ * a death notification was taken back, but another of its process is, which waits, or polls, or comes later: after what came to the
+ * process before, and not in the read that tells of its own one-way call; the manager can't have a reference on itself. And a reply comes,
+ * however much its call's write goes on with.
  *
  * Of the daemon alone: of two that wait who has room is told that a notification was taken back, though one without waits too.
  */
@@ -20,7 +21,7 @@
 #include <time.h>
 #include <unistd.h>
 
-enum { GIVE = 1, TAKE, TAKE_TIME, ASK_ITSELF, ANSWER };
+enum { GIVE = 1, TAKE, TAKE_TIME, ASK_ITSELF, ANSWER, RING };
 
 /* Commands that take some turns of the daemon. */
 #define GOING_ON 480
@@ -57,9 +58,19 @@ static uint32_t asks_itself(struct looper *looper)
     return 0;
 }
 
+/* Makes a one-way call on the object that came. */
+static void ring(struct looper *looper, const struct binder_transaction_data *call)
+{
+    struct binder_transaction_data reply;
+    uint32_t code = raw_call(looper, (struct call){.handle = raw_keep(looper, call), .flags = TF_ONE_WAY}, &reply);
+    CHECK(code == BR_TRANSACTION_COMPLETE, "a one-way call came to %x", code);
+}
+
 static void serve(struct looper *looper, const struct binder_transaction_data *call)
 {
     struct writer object = {0};
+    if (call->code == RING)
+        ring(looper, call);
     if (call->code == GIVE)
         write_own_object(&object, 0x1000, 0x1000);
     if (call->code == TAKE) {
@@ -253,34 +264,57 @@ static void *take_back_later(void *with)
     return with;
 }
 
-static void is_told(const char *how)
+/* The next read gets this return alone. */
+static void reads_one(uint32_t wanted, const char *who)
 {
     uint32_t codes[8];
     ssize_t count = read_codes(both.binder.fd, codes);
-    CHECK(count == 1 && codes[0] == BR_CLEAR_DEATH_NOTIFICATION_DONE, "who %s read %zd returns, %x", how, count, codes[0]);
+    CHECK(count == 1 && codes[0] == wanted, "who %s read %zd returns, %x, wanted %x", who, count, codes[0], wanted);
 }
 
-/* One that polls hears of a one-way call that it has written, and of what another takes back before it reads. */
+static void is_told(const char *how)
+{
+    reads_one(BR_CLEAR_DEATH_NOTIFICATION_DONE, how);
+}
+
+static void polls(void)
+{
+    struct pollfd file = {.fd = both.binder.fd, .events = POLLIN};
+    CHECK(poll(&file, 1, RAW_PATIENCE) == 1, "poll doesn't tell of all");
+}
+
+static void have_taken_back(void)
+{
+    pthread_t thread;
+    CHECK(!pthread_create(&thread, NULL, take_back, NULL), "no thread");
+    pthread_join(thread, NULL);
+}
+
+/* One that polls hears of a one-way call that it has written, and by another read of what another thread takes back before that. */
 static void is_told_behind_call(void)
 {
     const struct binder_transaction_data call = {.code = GIVE, .flags = TF_ONE_WAY};
-    struct pollfd file = {.fd = both.binder.fd, .events = POLLIN};
-    bool is_done = false, is_complete = false;
-    pthread_t thread;
     put_record(&both.looper.commands, BC_TRANSACTION, &call);
     CHECK(looper_flush(&both.looper), "can't write");
-    CHECK(!pthread_create(&thread, NULL, take_back, NULL), "no thread");
-    pthread_join(thread, NULL);
-    while (!is_done || !is_complete) {
-        uint32_t codes[8];
-        CHECK(poll(&file, 1, RAW_PATIENCE) == 1, "poll doesn't tell of all");
-        ssize_t count = read_codes(both.binder.fd, codes);
-        CHECK(count > 0, "poll tells of what can't be read");
-        for (ssize_t i = 0; i < count; i++) {
-            is_done |= codes[i] == BR_CLEAR_DEATH_NOTIFICATION_DONE;
-            is_complete |= codes[i] == BR_TRANSACTION_COMPLETE;
-        }
-    }
+    have_taken_back();
+    polls();
+    reads_one(BR_TRANSACTION_COMPLETE, "polls behind a call");
+    polls();
+    is_told("polls again");
+}
+
+/* A call that came to the process before is read first. */
+static void is_told_in_order(void)
+{
+    struct writer object = {0};
+    struct binder_transaction_data reply;
+    write_own_object(&object, 0x8000, 0x9000);
+    CHECK(raw_call_with(&both.looper, (struct call){.code = RING}, &object, &reply) == BR_REPLY, "the object wasn't taken");
+    looper_free(&both.looper, &reply);
+    CHECK(looper_flush(&both.looper), "can't write");
+    have_taken_back();
+    reads_one(BR_TRANSACTION, "is called");
+    is_told("was called before");
 }
 
 /* Two that wait: one without room for anything, which comes first to the process and last to wait; and one with room. */
@@ -357,19 +391,55 @@ static void tells_another(void)
     is_told("waits");
     pthread_join(thread, NULL);
     CHECK(!pthread_create(&thread, NULL, take_back_later, NULL), "no thread");
-    struct pollfd file = {.fd = both.binder.fd, .events = POLLIN};
-    CHECK(poll(&file, 1, RAW_PATIENCE) == 1, "nobody who polls is told");
+    polls();
     is_told("polls");
     pthread_join(thread, NULL);
     read_nothing(both.binder.fd);
     is_told_behind_call();
+    is_told_in_order();
     binder_close(&both.binder);
+}
+
+static void call_one_way(void *with)
+{
+    const struct binder_transaction_data call = {.code = GIVE, .flags = TF_ONE_WAY};
+    struct client client;
+    (void)with;
+    raw_open(&client, WINDOW, NULL);
+    put_record(&client.looper.commands, BC_TRANSACTION, &call);
+    CHECK(looper_flush(&client.looper), "can't call");
+    raw_ready();
+    pause();
+}
+
+/* What a thread writes that polls and reads nothing takes nothing away of what there is to be read. */
+static void polls_on(void)
+{
+    struct client client;
+    uint32_t codes[8];
+    raw_open(&client, WINDOW, NULL);
+    CHECK(binder_become_manager(&client.binder), "can't be the context manager");
+    put_code(&client.looper.commands, BC_ENTER_LOOPER);
+    CHECK(looper_flush(&client.looper), "can't enter the loop");
+    struct pollfd file = {.fd = client.binder.fd, .events = POLLIN};
+    CHECK(poll(&file, 1, 0) == 0, "poll tells of a call before it comes");
+    pid_t caller = raw_start(call_one_way, NULL);
+    for (int i = 0; i < 3; i++) {
+        CHECK(poll(&file, 1, RAW_PATIENCE) == 1, "poll tells of a call %d times alone", i);
+        put_code(&client.looper.commands, BC_ENTER_LOOPER);
+        CHECK(looper_flush(&client.looper), "can't write");
+    }
+    CHECK(read_codes(client.binder.fd, codes) == 1 && codes[0] == BR_TRANSACTION, "no call came");
+    CHECK(poll(&file, 1, 50) == 0, "poll tells of a call that was read");
+    raw_kill(caller);
+    binder_close(&client.binder);
 }
 
 int main(void)
 {
     struct client client;
     raw_begin(30);
+    polls_on();
     pid_t manager = raw_start_manager(serve);
     defers(read_nothing);
     defers(poll_for_reply);

@@ -47,13 +47,13 @@ __attribute__((constructor)) static void shorten(void)
 }
 
 /* It is for tests, so the header hasn't got it: an engine that is as after so many steps that were refused. */
-uint32_t hullpippin_live_begun_at(uint32_t seats, uint64_t steps, hullpippin_live *live);
+uint32_t hullpippin_bridge_begun_at(uint32_t seats, uint64_t steps, hullpippin_live *live);
 
-uint32_t __real_hullpippin_live_new(uint32_t seats, hullpippin_live *live);
-uint32_t __wrap_hullpippin_live_new(uint32_t seats, hullpippin_live *live);
-uint32_t __wrap_hullpippin_live_new(uint32_t seats, hullpippin_live *live)
+uint32_t __real_hullpippin_bridge_new(uint32_t seats, hullpippin_live *live);
+uint32_t __wrap_hullpippin_bridge_new(uint32_t seats, hullpippin_live *live);
+uint32_t __wrap_hullpippin_bridge_new(uint32_t seats, hullpippin_live *live)
 {
-    return begun_at ? hullpippin_live_begun_at(seats, begun_at, live) : __real_hullpippin_live_new(seats, live);
+    return begun_at ? hullpippin_bridge_begun_at(seats, begun_at, live) : __real_hullpippin_bridge_new(seats, live);
 }
 
 static bool makes_steps(hullpippin_live *live)
@@ -79,6 +79,17 @@ SHORT(command, (hullpippin_live *live, uint32_t seat, const uint8_t *command, si
                 const uint8_t *offsets, size_t offsets_size, hullpippin_answer *answer), live, seat, command, size, data, data_size,
       offsets, offsets_size, answer)
 SHORT(read, (hullpippin_live *live, uint32_t seat, uint32_t limit, hullpippin_answer *answer), live, seat, limit, answer)
+/* A read for who waits is a step too: none is made any more. */
+uint32_t __real_hullpippin_bridge_settle(hullpippin_live *live, uint32_t looks, hullpippin_signal *signal);
+uint32_t __wrap_hullpippin_bridge_settle(hullpippin_live *live, uint32_t looks, hullpippin_signal *signal);
+uint32_t __wrap_hullpippin_bridge_settle(hullpippin_live *live, uint32_t looks, hullpippin_signal *signal)
+{
+    if (makes_steps(live))
+        return __real_hullpippin_bridge_settle(live, looks, signal);
+    *signal = (hullpippin_signal){.kind = HULLPIPPIN_SIGNAL_NONE};
+    return HULLPIPPIN_DONE;
+}
+
 SHORT(exit_process, (hullpippin_live *live, uint32_t seat, hullpippin_answer *answer), live, seat, answer)
 
 /* Those of the daemon's own seat end as they should. */

@@ -1,7 +1,7 @@
 -- One thing more is told.
 use Rattle.std.proofs.Common.{◌≡◌, ◌==◌, ◌&&◌, ◌+◌, ◌≤◌, ℕ, List, [], ◌∷◌, ◌++◌, Bool, true, false, cond, Some, None, Option, option_map, refl, sym, ap, subst, ◌∙◌, arith, count_by}
 use Rattle.std.proofs.{lemmas.Bool.Decides.{nat_tests}, lemmas.Grind.{common_steps}}
-use Rattle.bd_bridge.specs.declared.{signal.Signal.{Signal}, waiters.{Waiters.{Waiters}, Waiter.{Waiter}}, suspects.Suspects.{Suspects}}
+use Rattle.bd_bridge.specs.declared.{signal.Signal.{Signal}, waiters.{Waiters.{Waiters}, Waiter.{Waiter}}, suspects.Suspects.{Suspects}, resting.Resting.{Resting}}
 use Rattle.bd_bridge.specs.declared.signal.Signal.TheVariants.{Read, Bell}
 use Rattle.bd_bridge.specs.{Waiting.{at}, Signals.{awakened, after_signal, after_signals, wakes, is_reading, seat_of, WaitsAfter, IsDue, AreDue, HaveHad, world_after, world_then}, Settled.{HasSettled}, Forgotten.{NobodyIsForgotten}}
 
@@ -106,24 +106,24 @@ module _ {W R : Type 0} (Sees : W → ℕ → Bool → Type 0) (has_read : W →
 
 -- ---- a look
 
-module _ {S W R : Type 0} (Follows : S → W → Type 0) (Sees : W → ℕ → Bool → Type 0) (IsOf : W → ℕ → ℕ → Type 0) (has_read : W → ℕ → R → W) (CanWait : W → ℕ → R → Type 0)
-    (h : W) (table : Waiters) (xs : List (Signal R)) (engine' : S) (now left : Waiters) (suspects' : Suspects) where
+module _ {S W R : Type 0} (Follows : S → W → Type 0) (Sees : W → ℕ → Bool → Type 0) (IsOf : W → ℕ → ℕ → Type 0) (has_read : W → ℕ → R → W) (CanWait : W → ℕ → R → Type 0) (CanRest : W → ℕ → Type 0)
+    (h : W) (table : Waiters) (xs : List (Signal R)) (engine' : S) (now left : Waiters) (suspects' : Suspects) (resting' : Resting) where
   abbrev here : W
   here = world_then has_read h xs
 
   abbrev Leaves : W → Type 0
-  Leaves w = Follows engine' w × NobodyIsForgotten (Sees w) (IsOf w) left suspects'
+  Leaves w = Follows engine' w × NobodyIsForgotten (Sees w) (IsOf w) (CanRest w) left suspects' resting'
 
   -- one was told
   pub on_more : HaveHad Sees has_read CanWait h table xs now → (x : Signal R) (seat : ℕ) → seat_of x ≡ seat → IsDue (Sees here) (WaitsAfter has_read CanWait here) (at now seat) x
       → ((t : ℕ) → at left t ≡ after_signal x t (at now t)) → Leaves (world_after has_read here x)
-      → HasSettled Follows Sees IsOf has_read CanWait h table (xs ++ x ∷ []) engine' left suspects'
+      → HasSettled Follows Sees IsOf has_read CanWait CanRest h table (xs ++ x ∷ []) engine' left suspects' resting'
   on_more so x seat same told goes leaves =
       let more = sym (world_more Sees has_read CanWait h xs x) in
       let there : Leaves (world_then has_read h (xs ++ x ∷ [])) = subst Leaves more leaves in
       record { follows = there.0; watched = there.1; had = told_at Sees has_read CanWait h table xs now so x left seat same told goes }
 
   -- none was
-  pub on_none : HaveHad Sees has_read CanWait h table xs now → left ≡ now → Leaves here → HasSettled Follows Sees IsOf has_read CanWait h table xs engine' left suspects'
+  pub on_none : HaveHad Sees has_read CanWait h table xs now → left ≡ now → Leaves here → HasSettled Follows Sees IsOf has_read CanWait CanRest h table xs engine' left suspects' resting'
   on_none so same leaves =
       record { follows = leaves.0; watched = leaves.1; had = subst (λ u. HaveHad Sees has_read CanWait h table xs u) (sym same) so }

@@ -1,5 +1,6 @@
 pub mod Named
 pub mod Suspects
+pub mod Resting
 pub mod Groups
 pub mod Rows
 pub mod Homes

@@ -84,14 +84,19 @@ pub record HaveHad {W R : Type 0} (Sees : W → ℕ → Bool → Type 0) (has_re
 
 -- ---- what the engine has made of it
 
+-- what came of a read, with what is kept of it, is its answer
+abbrev pub answered : {S K R : Type 0} → (S → K → R) → K → Signal S → Signal R
+answered answer kept (Read seat outcome woken) = Read seat (answer outcome kept) woken
+answered answer kept (Bell seat rings) = Bell seat rings
+
 abbrev pub room_of : Option Waiter → ℕ
 room_of None = 0
 room_of (Some w) = elim w.reads [ None ↦ 0 | Some r ↦ r.room ]
 
--- A read was made by the engine as it was, with the room that the seat waited with. A doorbell leaves it as it is.
-abbrev pub IsMade : {S R : Type 0} → (S → ℕ → ℕ → R → S → Type 0) → S → Option Waiter → Signal R → S → Type 0
-IsMade MadeRead e o (Read seat read woken) e' = MadeRead e seat (room_of o) read e'
-IsMade MadeRead e o (Bell seat rings) e' = e' ≡ e
+-- A read was made by the engine as it was, with the room that the seat waited with. A doorbell leaves it as it is, and what is kept.
+abbrev pub IsMade : {E K S : Type 0} → (E → K → ℕ → ℕ → S → E → K → Type 0) → E → K → Option Waiter → Signal S → E → K → Type 0
+IsMade MadeRead e k o (Read seat outcome woken) e' k' = MadeRead e k seat (room_of o) outcome e' k'
+IsMade MadeRead e k o (Bell seat rings) e' k' = (e' ≡ e) × (k' ≡ k)
 
 -- none, or one alone
 abbrev pub signals_of : {R : Type 0} → Option (Signal R) → List (Signal R)

@@ -7,6 +7,7 @@ mod engine;
 mod groups;
 mod loopers;
 mod reach;
+mod resting;
 mod signal;
 mod suspects;
 #[cfg(test)]
@@ -17,6 +18,7 @@ pub use bridge::Bridge;
 pub use engine::{Engine, Reached, TodoList};
 pub use groups::Groups;
 pub use loopers::Loopers;
+pub use resting::Resting;
 pub use signal::Signal;
 pub use suspects::Suspects;
 pub use waiters::{Reading, Waiter, Waiters};

@@ -1,9 +1,10 @@
 //! Who is to be looked at after a step.
 
 ghost use Rattle.std.specs.Prelude.{ℕ, ◌≡◌, Some, true};
-ghost use Rattle.bd_bridge.specs.{Reached.{is_read_by, names}, Suspects.{is_suspect}, Named.{has_seat}, Waiting.{at}};
+ghost use Rattle.bd_bridge.specs.{Reached.{is_read_by, names}, Suspects.{is_suspect}, Resting.{is_resting}, Named.{has_seat}, Waiting.{at}};
 
 use crate::engine::{Reached, TodoList};
+use crate::resting::Resting;
 use crate::suspects::Suspects;
 use crate::waiters::Waiters;
 
@@ -55,5 +56,21 @@ pub(crate) fn mark_reached(suspects: &mut Suspects, waiters: &Waiters, reached: 
     }
     for list in &reached.lists {
         mark_readers(suspects, waiters, *list);
+    }
+}
+
+/// Who rests is a suspect from now on, and rests no more: more may have come for it, which isn't named.
+#[inline(always)]
+pub(crate) fn mark_resting(suspects: &mut Suspects, waiters: &Waiters, resting: &mut Resting)
+    ensures roused { (t : ℕ) (w : _) → at waiters.now t ≡ Some w → is_resting resting.old t ≡ true → is_suspect suspects.new t ≡ true }
+    ensures kept { (t : ℕ) → is_suspect suspects.old t ≡ true → is_suspect suspects.new t ≡ true }
+{
+    if let Some(seat) = resting.first {
+        mark_seat(suspects, waiters, seat);
+        resting.first = None;
+    }
+    if let Some(seat) = resting.second {
+        mark_seat(suspects, waiters, seat);
+        resting.second = None;
     }
 }

@@ -1,6 +1,6 @@
 //! Whom a bridge wakes, over an engine that counts what each of four seats has to read.
 
-ghost use Rattle.std.specs.Prelude.{◌≡◌, IfOk};
+ghost use Rattle.std.specs.Prelude.{◌≡◌, ◌<◌, IfOk};
 ghost use Rattle.bd_bridge.specs.Waiting.{seats_in};
 
 use crate::{Bridge, Engine, Loopers, Reached, Reading, Signal, TodoList};
@@ -33,9 +33,12 @@ fn tell(reached: &mut Reached, list: TodoList) {
 impl Engine for Counts {
     type Step = Come;
 
-    type Answer = ();
+    type Answer = u32;
 
-    type Read = u32;
+    // How many reads there were.
+    type Kept = u32;
+
+    type Outcome = ();
 
     ghost World = { Unit {0} };
 
@@ -47,15 +50,19 @@ impl Engine for Counts {
 
     ghost IsCommand = { λ x. Unit {0} };
 
+    ghost answer = { λ o k. k };
+
     ghost stepped = { λ h t x a. h };
 
     ghost has_read = { λ h t r. h };
 
     ghost CanWait = { λ h t r. Unit {0} };
 
-    ghost Made = { λ s t x a s'. Unit {0} };
+    ghost CanRest = { λ h t. Unit {0} };
 
-    ghost MadeRead = { λ s t room r s'. Unit {0} };
+    ghost Made = { λ s k t x o s' k'. Unit {0} };
+
+    ghost MadeRead = { λ s k t room o s' k'. Unit {0} };
 
     fn is_ready(&self, seat: u32) -> bool {
         match self.due.get(seat as usize) {
@@ -68,7 +75,7 @@ impl Engine for Counts {
         PROCESS
     }
 
-    fn step(&mut self, _seat: u32, step: Come, reached: &mut Reached) {
+    fn step(&mut self, _seat: u32, step: Come, _kept: &mut u32, reached: &mut Reached) {
         if let Some(due) = self.due.get_mut(step.seat as usize) {
             *due = due.saturating_add(1);
         }
@@ -78,19 +85,50 @@ impl Engine for Counts {
         }
     }
 
-    fn read(&mut self, seat: u32, _room: u32, reached: &mut Reached) -> u32 {
+    fn read(&mut self, seat: u32, _room: u32, kept: &mut u32, reached: &mut Reached) {
         if let Some(due) = self.due.get_mut(seat as usize) {
             *due = due.saturating_sub(1);
         }
         tell(reached, TodoList::OfSeat(seat));
         self.reads = self.reads.saturating_add(1);
-        self.reads
+        *kept = self.reads;
+    }
+
+    fn take(&self, _outcome: (), kept: &mut u32) -> u32 {
+        *kept
     }
 
     // The first that anybody reads can wait.
-    fn can_wait(&self, _seat: u32, read: &u32) -> bool {
-        *read == 1
+    fn can_wait(&self, _seat: u32, _outcome: &(), kept: &u32) -> bool {
+        *kept == 1
     }
+
+    // One thing alone can rest.
+    fn can_rest(&self, seat: u32) -> bool {
+        match self.due.get(seat as usize) {
+            Some(due) => *due == 1,
+            None => false,
+        }
+    }
+}
+
+// One thing more for a seat to read, on a list.
+fn arrive(list: TodoList, seat: u32) -> Come {
+    Come { list, seat }
+}
+
+// On its own.
+fn one_more(seat: u32) -> Come {
+    arrive(TodoList::OfSeat(seat), seat)
+}
+
+// A seat's step.
+fn make(bridge: &mut Bridge<Counts>, seat: u32, step: Come)
+    requires { seat < seats_in bridge.old.waiters }
+    ensures { seats_in bridge.new.waiters ≡ seats_in bridge.old.waiters }
+{
+    let mut reads = 0;
+    bridge.step(seat, step, &mut reads);
 }
 
 fn new_bridge(alloc: Global) -> Result<Bridge<Counts>, Fail>
@@ -112,7 +150,8 @@ fn told(alloc: Global, bridge: &mut Bridge<Counts>) -> Result<u64, Fail>
     ensures { seats_in bridge.new.waiters ≡ seats_in bridge.old.waiters }
 {
     let mut signals = Vec::with_capacity(alloc, 16).ok().ok_or("memory")?;
-    let is_done = bridge.settle(16, &mut signals);
+    let mut reads = 0;
+    let is_done = bridge.settle(16, &mut reads, &mut signals);
     let mut all: u64 = 0;
     for signal in &signals {
         let one = match signal {
@@ -130,6 +169,7 @@ fn told(alloc: Global, bridge: &mut Bridge<Counts>) -> Result<u64, Fail>
 const READING: Reading = Reading {
     room: 256,
     defers: false,
+    leaves: false,
 };
 
 #[test]
@@ -138,20 +178,8 @@ fn a_read_is_woken_once(rt: HostRuntime) -> Result<(), Fail> {
     bridge.wait(rt.alloc(), 1, READING).ok().ok_or("memory")?;
     bridge.wait(rt.alloc(), 2, READING).ok().ok_or("memory")?;
     assert_eq!(rt; told(rt.alloc(), &mut bridge)?, 0);
-    bridge.step(
-        3,
-        Come {
-            list: TodoList::OfProcess(PROCESS),
-            seat: 2,
-        },
-    );
-    bridge.step(
-        3,
-        Come {
-            list: TodoList::OfSeat(2),
-            seat: 2,
-        },
-    );
+    make(&mut bridge, 3, arrive(TodoList::OfProcess(PROCESS), 2));
+    make(&mut bridge, 3, arrive(TodoList::OfSeat(2), 2));
     assert_eq!(rt; told(rt.alloc(), &mut bridge)?, 12);
     assert_eq!(rt; told(rt.alloc(), &mut bridge)?, 0);
     assert!(rt; bridge.waiter(2).is_none());
@@ -164,25 +192,13 @@ fn a_read_is_woken_once(rt: HostRuntime) -> Result<(), Fail> {
 fn a_doorbell_rings_until_all_is_read(rt: HostRuntime) -> Result<(), Fail> {
     let mut bridge = new_bridge(rt.alloc())?;
     bridge.give_doorbell(rt.alloc(), 2).ok().ok_or("memory")?;
-    bridge.step(
-        3,
-        Come {
-            list: TodoList::OfSeat(2),
-            seat: 2,
-        },
-    );
+    make(&mut bridge, 3, arrive(TodoList::OfSeat(2), 2));
     assert_eq!(rt; told(rt.alloc(), &mut bridge)?, 32);
     bridge.wait(rt.alloc(), 2, READING).ok().ok_or("memory")?;
     assert_eq!(rt; told(rt.alloc(), &mut bridge)?, 1242);
     bridge.wait(rt.alloc(), 2, READING).ok().ok_or("memory")?;
     bridge.stop_reading(2);
-    bridge.step(
-        3,
-        Come {
-            list: TodoList::OfSeat(2),
-            seat: 2,
-        },
-    );
+    make(&mut bridge, 3, arrive(TodoList::OfSeat(2), 2));
     assert_eq!(rt; told(rt.alloc(), &mut bridge)?, 32);
     bridge.stop_waiting(2);
     assert_eq!(rt; told(rt.alloc(), &mut bridge)?, 0);
@@ -195,33 +211,64 @@ fn what_can_wait_waits(rt: HostRuntime) -> Result<(), Fail> {
     let reading = Reading {
         room: 256,
         defers: true,
+        leaves: false,
     };
     bridge.wait(rt.alloc(), 1, reading).ok().ok_or("memory")?;
-    bridge.step(
-        1,
-        Come {
-            list: TodoList::OfSeat(1),
-            seat: 1,
-        },
-    );
+    make(&mut bridge, 1, arrive(TodoList::OfSeat(1), 1));
     assert_eq!(rt; told(rt.alloc(), &mut bridge)?, 21);
-    bridge.step(
-        3,
-        Come {
-            list: TodoList::OfSeat(1),
-            seat: 1,
-        },
-    );
+    make(&mut bridge, 3, arrive(TodoList::OfSeat(1), 1));
     assert_eq!(rt; told(rt.alloc(), &mut bridge)?, 11);
     Ok(())
 }
 
-// One thing more for a seat to read, by a step of seat 0.
-fn one_more(seat: u32) -> Come {
-    Come {
-        list: TodoList::OfSeat(seat),
-        seat,
-    }
+const RESTING: Reading = Reading {
+    room: 256,
+    defers: true,
+    leaves: true,
+};
+
+// What rests is read along with what comes behind it, whether that is named or not. Of three one has to go, who has rested
+// for longest.
+#[test]
+fn what_can_rest_rests(rt: HostRuntime) -> Result<(), Fail> {
+    let mut bridge = new_bridge(rt.alloc())?;
+    make(&mut bridge, 1, one_more(1));
+    bridge.wait(rt.alloc(), 1, RESTING).ok().ok_or("memory")?;
+    assert_eq!(rt; told(rt.alloc(), &mut bridge)?, 0);
+    make(&mut bridge, 3, arrive(TodoList::OfSeat(3), 1));
+    assert_eq!(rt;
+        told(rt.alloc(), &mut bridge)?,
+        21,
+        "the first that is read can wait"
+    );
+    make(&mut bridge, 3, one_more(3));
+    assert_eq!(rt;
+        told(rt.alloc(), &mut bridge)?,
+        0,
+        "it rests, since one thing is left"
+    );
+    make(&mut bridge, 3, arrive(TodoList::OfSeat(3), 1));
+    assert_eq!(rt; told(rt.alloc(), &mut bridge)?, 11);
+    Ok(())
+}
+
+#[test]
+fn two_rest_at_a_time(rt: HostRuntime) -> Result<(), Fail> {
+    let mut bridge = new_bridge(rt.alloc())?;
+    make(&mut bridge, 0, one_more(0));
+    make(&mut bridge, 1, one_more(1));
+    make(&mut bridge, 2, one_more(2));
+    bridge.wait(rt.alloc(), 0, RESTING).ok().ok_or("memory")?;
+    bridge.wait(rt.alloc(), 1, RESTING).ok().ok_or("memory")?;
+    bridge.wait(rt.alloc(), 2, RESTING).ok().ok_or("memory")?;
+    assert_eq!(rt;
+        told(rt.alloc(), &mut bridge)?,
+        20,
+        "who has rested for longest"
+    );
+    assert_eq!(rt; bridge.suspects(), 0);
+    assert!(rt; bridge.waiter(0).is_some());
+    Ok(())
 }
 
 #[test]
@@ -231,10 +278,10 @@ fn who_was_named_first_is_told_first(rt: HostRuntime) -> Result<(), Fail> {
     bridge.give_doorbell(rt.alloc(), 2).ok().ok_or("memory")?;
     bridge.give_doorbell(rt.alloc(), 3).ok().ok_or("memory")?;
     assert_eq!(rt; told(rt.alloc(), &mut bridge)?, 0);
-    bridge.step(0, one_more(2));
-    bridge.step(0, one_more(1));
-    bridge.step(0, one_more(3));
-    bridge.step(0, one_more(2));
+    make(&mut bridge, 0, one_more(2));
+    make(&mut bridge, 0, one_more(1));
+    make(&mut bridge, 0, one_more(3));
+    make(&mut bridge, 0, one_more(2));
     assert_eq!(rt; bridge.suspects(), 3, "each stands there once");
     assert_eq!(rt; told(rt.alloc(), &mut bridge)?, 32_31_33);
     Ok(())
@@ -243,37 +290,35 @@ fn who_was_named_first_is_told_first(rt: HostRuntime) -> Result<(), Fail> {
 #[test]
 fn seats_above_all_that_have_waited_are_not_looked_at(rt: HostRuntime) -> Result<(), Fail> {
     let mut bridge = new_bridge(rt.alloc())?;
-    bridge.step(0, one_more(4));
+    make(&mut bridge, 0, one_more(4));
     assert_eq!(rt; bridge.suspects(), 0, "nobody has waited");
     bridge.wait(rt.alloc(), 1, READING).ok().ok_or("memory")?;
     assert_eq!(rt; told(rt.alloc(), &mut bridge)?, 0);
-    bridge.step(0, one_more(4));
+    make(&mut bridge, 0, one_more(4));
     assert_eq!(rt; bridge.suspects(), 2, "seats 0 and 1");
     Ok(())
 }
 
 #[test]
 fn one_signal_comes_at_a_time(rt: HostRuntime) -> Result<(), Fail> {
+    let mut reads = 0;
     let mut bridge = new_bridge(rt.alloc())?;
     bridge.wait(rt.alloc(), 1, READING).ok().ok_or("memory")?;
     bridge.wait(rt.alloc(), 2, READING).ok().ok_or("memory")?;
-    assert!(rt; bridge.settle_one(4).is_none(), "there is nothing to read");
-    bridge.step(
-        3,
-        Come {
-            list: TodoList::OfSeat(2),
-            seat: 2,
-        },
+    assert!(rt;
+        bridge.settle_one(4, &mut reads).is_none(),
+        "there is nothing to read"
     );
+    make(&mut bridge, 3, arrive(TodoList::OfSeat(2), 2));
     assert!(rt; !bridge.is_settled(), "somebody is to be looked at");
-    match bridge.settle_one(4) {
+    match bridge.settle_one(4, &mut reads) {
         Some(Signal::Read { seat, wakes, .. }) => {
             assert_eq!(rt; seat, 2);
             assert!(rt; wakes);
         }
         _ => return Err("nobody was woken".into()),
     }
-    assert!(rt; bridge.settle_one(4).is_none());
+    assert!(rt; bridge.settle_one(4, &mut reads).is_none());
     assert!(rt; bridge.is_settled());
     Ok(())
 }

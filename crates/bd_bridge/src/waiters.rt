@@ -13,6 +13,8 @@ pub struct Reading {
     pub room: u32,
     /// What it need not be told before the reply to a call may be read for it meanwhile, and it waits on.
     pub defers: bool,
+    /// The same is left where it is while there is nothing else, to be read along with what comes behind it.
+    pub leaves: bool,
 }
 
 /// How a thread waits: in a read, by a doorbell, or both.

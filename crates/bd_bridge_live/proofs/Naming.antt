@@ -1,5 +1,5 @@
 -- Who is named by the lists that the engine has told.
-use Rattle.std.proofs.Common.{◌≡◌, ◌⊎◌, ℕ, Bool, true, false, List, [], ◌∷◌, Some, None, Result, Ok, Err, inl, inr, refl, sym, ap, subst, ◌∙◌, arith, map}
+use Rattle.std.proofs.Common.{◌≡◌, ◌⊎◌, ℕ, Bool, true, false, List, [], ◌∷◌, Option, Some, None, Result, Ok, Err, inl, inr, refl, sym, ap, subst, ◌∙◌, arith, map}
 use Rattle.std.proofs.{lemmas.Bool.Decides.{nat_tests}, lemmas.Bool.{cases_eq}, lemmas.Grind.{common_steps}}
 use Rattle.std.specs.List.{list_any}
 use Rattle.std.specs.Prelude.{IfOk, IsSome, not}
@@ -17,7 +17,7 @@ use Rattle.bd_space.specs.Seats.{thread_in}
 use Rattle.bd_space.specs.Histories.{History, space_after, extended, is_ready}
 use Rattle.bd_engine.specs.Reached.{IsNamed, has_work, is_among}
 use Rattle.bd_engine.proofs.Reaching.{these_name_all}
-use Rattle.bd_bridge_live.specs.{Lists.{converted, AreNamed}, Live.{Sees, IsOf, IsCommand, after_step, after_read}, declared.live.NotMade.{NotMade}}
+use Rattle.bd_bridge_live.specs.{Lists.{converted, AreNamed}, Live.{Sees, IsOf, IsCommand, answer_of, after_step, after_read, MakesOrNot}, declared.live.{LiveEngine.{LiveEngine}, NotMade.{NotMade}}}
 use Rattle.bd_bridge_live.proofs.Threads.{others, actors, none_comes, reader}
 
 among_own : (ls : List theirs.TodoList) (t p : ℕ) → is_among ls (OfThread t) ≡ true → list_any (is_read_by t p) (map converted ls) ≡ true
@@ -67,6 +67,11 @@ stays_on h seat x answer t p apart of = λ a here. by a here (others h seat x an
 pub any_names : (r : Reached) (t p : ℕ) → r.any ≡ true → names r t p ≡ true
 any_names r t p any = grind (arith, common_steps)
 
+-- the entry that is kept is of this step
+pub of_step : (x y : LiveEngine) (k k' : Option Entry) (seat : ℕ) (z : Step) (o : Result (Unit {0}) NotMade) → MakesOrNot x k seat z o y k' → IfOk (answer_of o k') (λ e. e.step ≡ z)
+of_step x y k k' seat z (Ok u) (e, is, made) = rw is made.step_is
+of_step x y k k' seat z (Err why) (is, made) = tt
+
 pub read_is : (h : History) (seat : ℕ) (x : Step) (r : Result Entry NotMade) → IfOk r (λ e. e.step ≡ x) → after_read h seat r ≡ after_step h seat x r
 read_is h seat x (Ok e) is = ap (λ (y : Step). extended h seat y e.answer) is
 read_is h seat x (Err why) is = refl
@@ -96,6 +101,7 @@ stays_read h seat room (Ok e) is t p of = λ a here. of a (sym (ap (λ ts. threa
 stays_read h seat room (Err why) is t p of = of
 
 -- who reads and is rightly told isn't ready
-pub rests : (h : History) (t : ℕ) (w : Waiter) → IsInformed (Sees h) t w → IsSome w.reads → is_ready (space_after h) t ≡ false
-rests h t w (inl ready, quiet) reads = ready ∙ quiet reads
-rests h t w (inr gone, quiet) reads = ap (λ o. is_some_and o (λ a. not (none_due (list_to_read (space_after h) a)))) gone
+pub rests : {L : Type 0} (h : History) (t : ℕ) (w : Waiter) → IsInformed (Sees h) t w ⊎ L → IsSome w.reads → (is_ready (space_after h) t ≡ false) ⊎ L
+rests h t w (inl (inl ready, quiet)) reads = inl (ready ∙ quiet reads)
+rests h t w (inl (inr gone, quiet)) reads = inl (ap (λ o. is_some_and o (λ a. not (none_due (list_to_read (space_after h) a)))) gone)
+rests h t w (inr left) reads = inr left

@@ -1,8 +1,12 @@
 -- What can wait for the reply to a call.
-use Rattle.std.specs.Prelude.{ℕ, zero, suc, ◌+◌, ◌≡◌, ◌==◌, Bool, true, false, ◌&&◌, nat_le, List, length, drop, Option, Some, None, unwrap_or, if◌then◌else◌}
+use Rattle.std.specs.Prelude.{ℕ, zero, suc, ◌+◌, ◌≡◌, ◌==◌, Bool, true, false, not, ◌&&◌, nat_le, List, [], ◌∷◌, length, drop, Option, Some, None, unwrap_or, if◌then◌else◌}
 use Rattle.bd_uapi.specs.Bytes.{word_at}
 use Rattle.bd_space.specs.declared.step.{StepAnswer.{StepAnswer}}
 use Rattle.bd_space.specs.declared.step.StepAnswer.TheVariants.{Opened, Set, Exited, Accepted, Noted, Stopped, Got, Refused}
+use Rattle.bd_space.specs.declared.space.{Work.{Work}, WorkKind.{WorkKind}}
+use Rattle.bd_space.specs.declared.space.WorkKind.TheVariants.{Complete}
+use Rattle.bd_space.specs.declared.space.TodoList.TheVariants.{OfThread}
+use Rattle.bd_space.specs.Todo.{work_on}
 use Rattle.bd_space.specs.Space.{Space}
 use Rattle.bd_engine.specs.Looks.{innermost_of}
 
@@ -36,3 +40,17 @@ may_wait (Refused fault) = false
 -- the seat's thread is in a call, and in none that it serves inside of that
 abbrev pub IsInCall : Space → ℕ → Type 0
 IsInCall s seat = (made : ℕ) × (innermost_of s seat ≡ Some (made, false))
+
+-- that a call or reply was taken, and nothing to report of it
+abbrev pub is_completion : WorkKind → Bool
+is_completion (Complete spam) = not spam
+is_completion _ = false
+
+abbrev pub is_completion_alone : List Work → Bool
+is_completion_alone [] = false
+is_completion_alone (w ∷ []) = is_completion w.kind
+is_completion_alone (w ∷ _ ∷ _) = false
+
+-- it is all that is on the thread's own list
+abbrev pub HasCompletionAlone : Space → ℕ → Type 0
+HasCompletionAlone s seat = is_completion_alone (work_on s.todo (Some (OfThread seat))) ≡ true

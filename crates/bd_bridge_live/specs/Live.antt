@@ -1,5 +1,5 @@
 -- A live engine as a bridge has it: its worlds are the histories that it follows.
-use Rattle.std.specs.Prelude.{ℕ, ◌≡◌, ◌⊎◌, ◌≤◌, Bool, true, Some, None, Result, Ok, Err}
+use Rattle.std.specs.Prelude.{ℕ, ◌≡◌, ◌⊎◌, ◌≤◌, Bool, true, Option, Some, None, Result, Ok, Err}
 use Rattle.bd_space.specs.declared.step.{Step.{Step}, Entry.{Entry}}
 use Rattle.bd_space.specs.declared.space.Thread.{Thread}
 use Rattle.bd_space.specs.Seats.{thread_in}
@@ -10,7 +10,7 @@ use Rattle.bd_engine.specs.Ending.{ended_between}
 use Rattle.bd_step.specs.declared.step_error.StepError.TheVariants.{NoMemory, HistoryFull}
 use Rattle.bd_engine.specs.Reached.{Recalls, has_work}
 use Rattle.bd_attached.specs.Threads.{BringsNone}
-use Rattle.bd_bridge_live.specs.Deferring.{may_wait, IsInCall}
+use Rattle.bd_bridge_live.specs.Deferring.{may_wait, IsInCall, HasCompletionAlone}
 use Rattle.bd_bridge_live.specs.declared.live.{LiveEngine.{LiveEngine}, NotMade.{NotMade}}
 use Rattle.bd_bridge_live.specs.declared.live.NotMade.TheVariants.{NoSuchSeat, Refused}
 
@@ -18,6 +18,13 @@ use Rattle.bd_bridge_live.specs.declared.live.NotMade.TheVariants.{NoSuchSeat, R
 pub record FollowsTold (e : LiveEngine) (h : History) : Type 0 where
   pub follows : engine.Follows e.live h
   pub recalls : e.is_told ≡ true → Recalls e.live (has_work (space_after h))
+
+-- What came of a step: its entry, which is kept where it was made, or why it wasn't. (That one was made and none is kept isn't said of any
+-- step: MakesOrNot.)
+abbrev pub answer_of : Result (Unit {0}) NotMade → Option Entry → Result Entry NotMade
+answer_of (Err why) kept = Err why
+answer_of (Ok _) None = Err NoSuchSeat
+answer_of (Ok _) (Some e) = Ok e
 
 -- what wasn't made isn't in it
 abbrev pub after_step : History → ℕ → Step → Result Entry NotMade → History
@@ -44,6 +51,10 @@ abbrev pub CanWait : History → ℕ → Result Entry NotMade → Type 0
 CanWait h seat (Ok e) = IsInCall (space_after h) seat × (may_wait e.answer ≡ true)
 CanWait h seat (Err why) = ⊥
 
+-- it is in a call of its own, and has the completion of one to read and nothing else
+abbrev pub CanRest : History → ℕ → Type 0
+CanRest h seat = IsInCall (space_after h) seat × HasCompletionAlone (space_after h) seat
+
 -- the step was made, and its entry tells the space's answer, and those buffers are listed that ended
 pub record HasMade (x : LiveEngine) (seat : ℕ) (z : Step) (e : Entry) (y : LiveEngine) : Type 0 where
   pub seat_is : e.seat ≡ seat
@@ -64,6 +75,7 @@ pub record HasNotMade (x : LiveEngine) (seat : ℕ) (z : Step) (why : NotMade) (
   pub follows : (h : History) → engine.Follows x.live h → engine.Follows y.live h
   pub is_why : IsWhy x seat z why
 
-abbrev pub MakesOrNot : LiveEngine → ℕ → Step → Result Entry NotMade → LiveEngine → Type 0
-MakesOrNot x seat z (Ok e) y = HasMade x seat z e y
-MakesOrNot x seat z (Err why) y = HasNotMade x seat z why y
+-- its entry is kept, or what was kept is still
+abbrev pub MakesOrNot : LiveEngine → Option Entry → ℕ → Step → Result (Unit {0}) NotMade → LiveEngine → Option Entry → Type 0
+MakesOrNot x k seat z (Ok _) y k' = (e : Entry) × (k' ≡ Some e) × HasMade x seat z e y
+MakesOrNot x k seat z (Err why) y k' = (k' ≡ k) × HasNotMade x seat z why y

@@ -1,9 +1,10 @@
 //! What can wait for the reply to a call.
 
 ghost use Rattle.std.specs.Prelude.{◌≡◌, length};
-ghost use Rattle.bd_bridge_live.specs.Deferring.{size_behind as size_of_it, all_can_wait as they_can_wait, may_wait as it_may_wait};
+ghost use Rattle.bd_bridge_live.specs.Deferring.{size_behind as size_of_it, all_can_wait as they_can_wait, may_wait as it_may_wait, is_completion as it_is_completion, is_completion_alone as it_is_alone};
 
-use bd_space::StepAnswer;
+use bd_engine::Works;
+use bd_space::{StepAnswer, WorkKind};
 use bd_uapi::codes::{BR_ACQUIRE, BR_INCREFS, BR_NOOP, BR_TRANSACTION_COMPLETE};
 use bd_uapi::numbers::u32_at;
 
@@ -50,5 +51,24 @@ pub(crate) fn may_wait(answer: &StepAnswer) -> bool
     match answer {
         StepAnswer::Got { stream, .. } => all_can_wait(stream.as_slice()),
         _ => false,
+    }
+}
+
+fn is_completion(kind: WorkKind) -> bool
+    ensures { result ≡ it_is_completion kind }
+{
+    match kind {
+        WorkKind::Complete { spam } => !spam,
+        _ => false,
+    }
+}
+
+/// Whether there is the completion of a call among these, and nothing else.
+pub(crate) fn is_completion_alone(mut works: Works<'_>) -> bool
+    ensures { result ≡ it_is_alone works.entry }
+{
+    match works.next() {
+        Some(work) => is_completion(work.kind) && works.next().is_none(),
+        None => false,
     }
 }

@@ -1,12 +1,12 @@
 //! A live engine, and what it was told of its lists.
 
-ghost use Rattle.std.specs.Prelude.{ℕ, ◌≡◌, ◌⊎◌, Bool, true, IfOk};
+ghost use Rattle.std.specs.Prelude.{ℕ, ◌≡◌, ◌⊎◌, Bool, Some, true, OnOk};
 ghost use Rattle.bd_space.specs.Histories.{History, space_after};
 ghost use Rattle.bd_engine.specs.Follows as engine;
 ghost use Rattle.bd_engine.specs.Reached.{Recalls, has_work};
 ghost use Rattle.bd_bridge.specs.Reached.{names};
 
-use crate::deferring::may_wait;
+use crate::deferring::{is_completion_alone, may_wait};
 use crate::lists::convert_all;
 use bd_bridge::{Engine, Reached};
 use bd_engine::{Live, Looks, StepError};
@@ -32,9 +32,9 @@ pub struct LiveEngine {
 }
 
 impl LiveEngine {
-    ghost use Rattle.bd_bridge_live.specs.Live.{FollowsTold, after_step, Sees, IsOf, MakesOrNot};
+    ghost use Rattle.bd_bridge_live.specs.Live.{FollowsTold, answer_of, after_step, Sees, IsOf, MakesOrNot};
     ghost use Rattle.bd_bridge_live.specs.Lists.{AreNamed};
-    ghost use Rattle.bd_bridge_live.specs.Deferring.{IsInCall};
+    ghost use Rattle.bd_bridge_live.specs.Deferring.{IsInCall, HasCompletionAlone};
 
     /// A live engine as it is. Its first step may have reached anybody. Takes no memory.
     pub fn new(alloc: Global, live: Live) -> LiveEngine
@@ -69,22 +69,28 @@ impl LiveEngine {
         }
     }
 
-    // Makes a step, and tells whose lists that has filled or emptied.
+    // Makes a step, whose entry is kept, and tells whose lists that has filled or emptied. Where none is made the entry before it stays.
     #[inline(always)]
-    fn make(&mut self, seat: u32, step: Step, reached: &mut Reached) -> Result<Entry, NotMade>
-        ensures follows { (h : History) → FollowsTold self.old h → FollowsTold self.new (after_step h seat step result) }
+    fn make(
+        &mut self,
+        seat: u32,
+        step: Step,
+        kept: &mut Option<Entry>,
+        reached: &mut Reached,
+    ) -> Result<(), NotMade>
+        ensures follows { (h : History) → FollowsTold self.old h → FollowsTold self.new (after_step h seat step (answer_of result kept.new)) }
         ensures reaches { (h : History) → FollowsTold self.old h → (t p : ℕ) (b : Bool) → (t ≡ seat → ⊥) → IsOf h t p → Sees h t b
-            → Sees (after_step h seat step result) t b ⊎ (names reached.new t p ≡ true) }
-        ensures step { IfOk result (λ e. e.step ≡ step) }
-        ensures made { MakesOrNot self.old seat step result self.new }
+            → Sees (after_step h seat step (answer_of result kept.new)) t b ⊎ (names reached.new t p ≡ true) }
+        ensures made { MakesOrNot self.old kept.old seat step result self.new kept.new }
     {
         if seat >= self.live.seats() {
             return Err(NotMade::NoSuchSeat);
         }
         match self.live.step_with_ended(seat, step, &mut self.ended) {
             Ok(entry) => {
+                *kept = Some(entry);
                 self.tell(reached);
-                Ok(entry)
+                Ok(())
             }
             Err(why) => {
                 self.tell(reached);
@@ -102,10 +108,17 @@ impl LiveEngine {
             None => false,
         }
     }
+
+    // Whether the completion of a call is all that is on the own list of a seat's thread.
+    fn has_completion_alone(&self, seat: u32) -> bool
+        ensures { result ≡ true → (h : History) → engine.Follows self.now.live h → HasCompletionAlone (space_after h) seat }
+    {
+        is_completion_alone(self.live.unread(TodoList::OfThread(seat)))
+    }
 }
 
 impl Engine for LiveEngine {
-    ghost use Rattle.bd_bridge_live.specs.Live.{FollowsTold, after_step, after_read, Sees, IsOf, IsCommand, CanWait, MakesOrNot};
+    ghost use Rattle.bd_bridge_live.specs.Live.{FollowsTold, answer_of, after_step, after_read, Sees, IsOf, IsCommand, CanWait, CanRest, MakesOrNot};
     ghost use Rattle.bd_space.specs.declared.step.Step.TheVariants.{Read};
     ghost use Rattle.bd_space.specs.Histories.{History};
 
@@ -113,7 +126,9 @@ impl Engine for LiveEngine {
 
     type Answer = Result<Entry, NotMade>;
 
-    type Read = Result<Entry, NotMade>;
+    type Kept = Option<Entry>;
+
+    type Outcome = Result<(), NotMade>;
 
     ghost World = { History };
 
@@ -125,15 +140,19 @@ impl Engine for LiveEngine {
 
     ghost IsCommand = { IsCommand };
 
+    ghost answer = { answer_of };
+
     ghost stepped = { after_step };
 
     ghost has_read = { after_read };
 
     ghost CanWait = { CanWait };
 
+    ghost CanRest = { CanRest };
+
     ghost Made = { MakesOrNot };
 
-    ghost MadeRead = { λ x seat room r y. MakesOrNot x seat (Read room) r y };
+    ghost MadeRead = { λ x k seat room r y k'. MakesOrNot x k seat (Read room) r y k' };
 
     fn is_ready(&self, seat: u32) -> bool {
         self.live.is_ready(seat)
@@ -146,18 +165,48 @@ impl Engine for LiveEngine {
         }
     }
 
-    fn step(&mut self, seat: u32, step: Step, reached: &mut Reached) -> Result<Entry, NotMade> {
-        self.make(seat, step, reached)
+    fn step(
+        &mut self,
+        seat: u32,
+        step: Step,
+        kept: &mut Option<Entry>,
+        reached: &mut Reached,
+    ) -> Result<(), NotMade> {
+        self.make(seat, step, kept, reached)
     }
 
-    fn read(&mut self, seat: u32, room: u32, reached: &mut Reached) -> Result<Entry, NotMade> {
-        self.make(seat, Step::Read { limit: room }, reached)
+    fn read(
+        &mut self,
+        seat: u32,
+        room: u32,
+        kept: &mut Option<Entry>,
+        reached: &mut Reached,
+    ) -> Result<(), NotMade> {
+        self.make(seat, Step::Read { limit: room }, kept, reached)
     }
 
-    fn can_wait(&self, seat: u32, read: &Result<Entry, NotMade>) -> bool {
-        match read {
-            Ok(entry) => may_wait(&entry.answer) && self.is_in_call(seat),
-            Err(_) => false,
+    fn take(
+        &self,
+        outcome: Result<(), NotMade>,
+        kept: &mut Option<Entry>,
+    ) -> Result<Entry, NotMade> {
+        match outcome {
+            Ok(()) => match kept.take() {
+                Some(entry) => Ok(entry),
+                None => Err(NotMade::NoSuchSeat),
+            },
+            Err(why) => Err(why),
         }
+    }
+
+    fn can_wait(&self, seat: u32, outcome: &Result<(), NotMade>, kept: &Option<Entry>) -> bool {
+        match kept {
+            Some(entry) => outcome.is_ok() && may_wait(&entry.answer) && self.is_in_call(seat),
+            None => false,
+        }
+    }
+
+    fn can_rest(&self, seat: u32) -> bool {
+        self.has_completion_alone(seat) && self.is_in_call(seat)
     }
 }

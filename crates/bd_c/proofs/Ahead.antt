@@ -1,6 +1,6 @@
 -- What a walk has still to come to.
 use Rattle.std.proofs.Common.{◌≡◌, ℕ, suc, zero, ◌+◌, ◌%◌, Bool, true, false, cond, eqb, List, [], ◌∷◌, length, drop, Option, Some, None, refl, ap, ◌∙◌, arith}
-use Rattle.std.specs.Prelude.{Ok, Err, slice_get}
+use Rattle.std.specs.Prelude.{Err, slice_get}
 use Rattle.bd_parcel.specs.declared.fault.WalkFault.{WalkFault}
 use Rattle.bd_parcel.specs.declared.fault.WalkFault.TheVariants.{Size, Bad, Unsupported}
 use Rattle.bd_parcel.specs.Parcels.{offsets_in, fault_at, fault_from}

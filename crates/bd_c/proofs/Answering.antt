@@ -2,7 +2,7 @@
 use Rattle.std.proofs.Common.{◌≡◌, ◌∙◌, ℕ, List, Bool, false, ap, refl, sym, subst, inl, inr}
 use Rattle.std.specs.Prelude.{Option, Some, None}
 use Rattle.bd_uapi.specs.declared.command.Command.{Command}
-use Rattle.bd_space.specs.declared.step.Request.TheVariants.{Write, SetSpam}
+use Rattle.bd_space.specs.declared.step.Request.TheVariants.{SetSpam}
 use Rattle.bd_space.specs.declared.step.Step.TheVariants as step_of
 use Rattle.bd_c.specs.declared.answers.Told.{Told}
 use Rattle.bd_c.specs.declared.held.Held.{Held}
@@ -12,7 +12,7 @@ use Rattle.bd_c.specs.declared.live.OwnedLive.{OwnedLive}
 use Rattle.bd_c.specs.declared.seat.OwnedSeat.{OwnedSeat}
 use Rattle.bd_c.specs.declared.status.Status.{Status}
 use Rattle.bd_c.specs.declared.status.Status.TheVariants.{Done, NoMemory, NoCommand, Misuse}
-use Rattle.bd_c.specs.Behind.{Of, Over, IsDriver, driver_of, seat_of, live_of}
+use Rattle.bd_c.specs.Behind.{Of, Over, IsDriver, driver_of, seat_of}
 use Rattle.bd_c.specs.Drivers.{HandsAt, ReturnsAt, Finishes}
 use Rattle.bd_c.specs.Flags.{ByFlag, IsNoFlag, flag_of}
 use Rattle.bd_c.specs.Hosts.{Hands, Keeps, is_seat_away}
@@ -46,9 +46,6 @@ pub finishes_none : (h : Option Held) (v w : Held) (s : Status) (n : ℕ) → h 
 finishes_none h v w s n there is does not = let told = does (λ d. not (subst IsDriver (sym there) d)) in (is ∙ ap number_of told.0, ap Some told.1 ∙ sym there)
 
 -- ---- what a seat's and a live engine's calls answer
-
-pub write_refused : (h : Option Held) (x : OwnedSeat) (stream area : List ℕ) (told : Told) (n : ℕ) → h ≡ Some (Seat x) → n ≡ number_of NoMemory → Reports n (AsksAt h (Some (Seat x)) (Write stream area) told told)
-write_refused h x stream area told n seat is = (NoMemory, is, subst (λ (k : Option Held). AsksAt k (Some (Seat x)) (Write stream area) told told NoMemory) (sym seat) ((refl, refl), (tt, (refl, refl))))
 
 pub flag_refused : (h : Option Held) (v : Held) (f : ℕ) (Does : Bool → Told → Told → Status → Type 0) (told : Told) (s : Status) (n : ℕ) → h ≡ Some v → n ≡ number_of s → IsNoFlag f s → Reports n (ByFlag f Does h (Some v) told told)
 flag_refused h v f Does told s n there is none = (s, is, inl (none, sym there, refl))

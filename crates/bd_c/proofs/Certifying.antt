@@ -1,5 +1,5 @@
 -- Certificates of a record's history, as C is told of them.
-use Rattle.std.proofs.Common.{◌≡◌, ◌∙◌, ℕ, List, Bool, false, refl, sym, subst, map, inl}
+use Rattle.std.proofs.Common.{◌≡◌, ◌∙◌, ℕ, List, false, refl, sym, subst, map, inl}
 use Rattle.std.proofs.lemmas.Bool.{false≢true}
 use Rattle.std.specs.Prelude.{[], ◌∷◌, Option, Some, None, is_some}
 use Rattle.bd_spelling.specs.declared.record.Record.{Record}

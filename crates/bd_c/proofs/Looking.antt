@@ -1,5 +1,5 @@
 -- What a look finds is told.
-use Rattle.std.proofs.Common.{◌≡◌, List, Option, Some, None, true, false, refl, sym}
+use Rattle.std.proofs.Common.{◌≡◌, Option, Some, None, true, false, refl}
 use Rattle.std.specs.Prelude.{option_map}
 use Rattle.bd_c.specs.SpaceTold.{Finds}
 

@@ -1,17 +1,16 @@
 -- What a bridge's calls do: who waits, and what those who wait are told.
-use Rattle.std.specs.Prelude.{◌≡◌, ◌≤◌, ◌⊎◌, ℕ, Bool, true, false, Option, Some, None, Result, Ok, Err, option_map, IfSome, IsNone}
+use Rattle.std.specs.Prelude.{◌≡◌, ◌≤◌, ◌==◌, ◌⊎◌, ℕ, Bool, true, false, Option, Some, None, Result, Ok, Err, option_map, IfSome, IsNone, if◌then◌else◌}
 use Rattle.bd_space.specs.declared.step.Entry.{Entry}
 use Rattle.bd_space.specs.declared.step.Step.TheVariants.{Read}
 use Rattle.bd_space.specs.Histories.{History}
 use Rattle.bd_engine.specs.Follows.{Follows}
 use Rattle.bd_engine.specs.StepError.TheVariants as step_error
-use Rattle.bd_bridge.specs.{Forgotten.{IsInformed}, Waiting.{at, seats_in}, Suspects.{suspects_in}, Settled.{HasSettled}, Signals.{signals_of, room_of, awakened}}
+use Rattle.bd_bridge.specs.{Forgotten.{IsInformed, IsLeft}, Waiting.{at, seats_in}, Suspects.{suspects_in}, Settled.{HasSettled}, Signals.{signals_of, room_of, awakened}}
 use Rattle.bd_bridge.specs.declared.{signal.Signal.{Signal}, waiters.{Waiter.{Waiter}}}
 use Rattle.bd_bridge.specs.declared.signal.Signal.TheVariants as signal
-use Rattle.bd_bridge_live.specs.Live.{FollowsTold, Sees, IsOf, CanWait, after_read}
+use Rattle.bd_bridge_live.specs.Live.{FollowsTold, Sees, IsOf, CanWait, CanRest, after_read}
 use Rattle.bd_bridge_live.specs.declared.live.NotMade.{NotMade}
 use Rattle.bd_bridge_live.specs.declared.live.NotMade.TheVariants.{NoSuchSeat, Refused}
-use Rattle.bd_c.specs.Flags.{IsNoFlag, flag_of}
 use Rattle.bd_c.specs.Status.{number_of}
 use Rattle.bd_c.specs.Told.{placed}
 use Rattle.bd_c.specs.Lives.{Watches, KeepsNotes, KeepsLists, IsAnswered}
@@ -42,15 +41,21 @@ Awaits Goes x y seat status.NoSuchSeat = (seats_in x.bridge.waiters ≤ seat) ×
 Awaits Goes x y seat _ = ⊥
 
 -- it waits in a read, and its doorbell is as it was
-pub record BeginsToRead (room : ℕ) (defers : Bool) (old new : Option Waiter) : Type 0 where
-  pub reads : option_map (λ (w : Waiter). w.reads) new ≡ Some (Some (record { room = room; defers = defers }))
+pub record BeginsToRead (room : ℕ) (defers leaves : Bool) (old new : Option Waiter) : Type 0 where
+  pub reads : option_map (λ (w : Waiter). w.reads) new ≡ Some (Some (record { room = room; defers = defers; leaves = leaves }))
   pub doorbell : IfSome old (λ (o : Waiter). option_map (λ (w : Waiter). w.has_doorbell) new ≡ Some o.has_doorbell)
   pub rung : IfSome old (λ (o : Waiter). option_map (λ (w : Waiter). w.is_rung) new ≡ Some o.is_rung)
 
--- a word that is neither 0 nor 1 says nothing, and then nothing differs
+-- What a number says of what a thread need not be told before the reply to a call of its own: 0, that it is told all; 1, that such may be read
+-- for it meanwhile; 2, the same, and that what can rest is left to it. No other number says anything.
+abbrev pub deferring_of : ℕ → Option (Bool × Bool)
+deferring_of n = if n == 0 then Some (false, false) else (if n == 1 then Some (true, false) else (if n == 2 then Some (true, true) else None))
+
+-- what says nothing changes nothing
 abbrev pub WaitsByFlag : ℕ → ℕ → OwnedLive → OwnedLive → ℕ → Status → Type 0
 WaitsByFlag room word x y seat s =
-    (IsNoFlag word s × (y ≡ x)) ⊎ ((defers : Bool) × (flag_of word ≡ Some defers) × Awaits (BeginsToRead room defers) x y seat s)
+    ((s ≡ status.NoSuchRequest) × (deferring_of word ≡ None) × (y ≡ x))
+    ⊎ ((defers leaves : Bool) × (deferring_of word ≡ Some (defers, leaves)) × Awaits (BeginsToRead room defers leaves) x y seat s)
 
 -- it has a doorbell, which is silent, and waits in a read as it did
 pub record GetsDoorbell (old new : Option Waiter) : Type 0 where
@@ -106,12 +111,13 @@ IsTold x y (Some (signal.Read seat (Err why) wakes)) told = (told ≡ read_told 
 IsTold x y (Some (signal.Read seat (Ok e) wakes)) told = (told ≡ read_told seat wakes told.is_left status.Done told.answer) × MadeRead x y seat e told.answer
 
 -- So many looks were made, until one came to a signal, or none did. The signal was due, whoever gets none waits as before, and the engine
--- has made this read and nothing else. Where nobody is left, whoever waits is informed. Looks that come to no signal come to an end.
+-- has made this read and nothing else. Where nobody is left, whoever waits is informed, or is left what can rest. Looks that come to no signal
+-- come to an end.
 pub record HasLooked (x y : OwnedLive) (looks : ℕ) (told : SignalTold) : Type 0 where
   pub signal : Option (Signal (Result Entry NotMade))
   pub is_told : IsTold x y signal told
-  pub on : (h : History) → Watches x h → HasSettled FollowsTold Sees IsOf after_read CanWait h x.bridge.waiters (signals_of signal) y.bridge.engine y.bridge.waiters y.bridge.suspects
-  pub settled : told.is_left ≡ false → (h : History) → Watches y h → (t : ℕ) (w : Waiter) → at y.bridge.waiters t ≡ Some w → IsInformed (Sees h) t w
+  pub on : (h : History) → Watches x h → HasSettled FollowsTold Sees IsOf after_read CanWait CanRest h x.bridge.waiters (signals_of signal) y.bridge.engine y.bridge.waiters y.bridge.suspects y.bridge.resting
+  pub settled : told.is_left ≡ false → (h : History) → Watches y h → (t : ℕ) (w : Waiter) → at y.bridge.waiters t ≡ Some w → IsInformed (Sees h) t w ⊎ IsLeft (CanRest h) t w
   pub progress : IsNone signal → suspects_in x.bridge.suspects ≤ looks → told.is_left ≡ false
   pub seats : seats_in y.bridge.waiters ≡ seats_in x.bridge.waiters
   pub notes : KeepsNotes x y

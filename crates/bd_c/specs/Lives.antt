@@ -9,7 +9,7 @@ use Rattle.bd_engine.specs.Ending.{ended_between}
 use Rattle.bd_engine.specs.Reached.{KeepsTold}
 use Rattle.bd_engine.specs.Refusals.{IsLiveSeats}
 use Rattle.bd_bridge.specs.{Forgotten.{NobodyIsForgotten}, Waiting.{at, seats_in}}
-use Rattle.bd_bridge_live.specs.Live.{FollowsTold, Sees, IsOf, IsCommand}
+use Rattle.bd_bridge_live.specs.Live.{FollowsTold, Sees, IsOf, CanRest, IsCommand}
 use Rattle.bd_c.specs.Behind.{Of, Over, IsMade, live_of}
 use Rattle.bd_c.specs.Told.{told_of_step}
 use Rattle.bd_c.specs.declared.answers.Told.{Told}
@@ -18,11 +18,11 @@ use Rattle.bd_c.specs.declared.held.Held.{Held}
 use Rattle.bd_c.specs.declared.status.Status.{Status}
 use Rattle.bd_c.specs.declared.status.Status.TheVariants.{Done, NoMemory, Waiting, SeatCount, NoSuchSeat, HistoryFull}
 
--- Nobody who waits is forgotten: whoever waits is informed, or is still to be looked at. And whom a step has reached is known, or that it
+-- Nobody who waits is forgotten: whoever waits is informed, or is still seen to. And whom a step has reached is known, or that it
 -- isn't known.
 pub record Watches (x : OwnedLive) (h : History) : Type 0 where
   pub follows : FollowsTold x.bridge.engine h
-  pub watched : NobodyIsForgotten (Sees h) (IsOf h) x.bridge.waiters x.bridge.suspects
+  pub watched : NobodyIsForgotten (Sees h) (IsOf h) (CanRest h) x.bridge.waiters x.bridge.suspects x.bridge.resting
 
 -- the seat's thread may wait: the engine is a bridge
 abbrev pub IsBridged : OwnedLive → ℕ → Type 0

@@ -1,5 +1,5 @@
 -- What a call with a seat does, by the driver's call of that name.
-use Rattle.std.specs.Prelude.{◌≡◌, Bool, true, false, Option, Some, None}
+use Rattle.std.specs.Prelude.{◌≡◌, ◌≤◌, ℕ, List, length, vec_capacity, Bool, true, false, Option, Some, None}
 use Rattle.std.specs.Arc.{arc_value}
 use Rattle.bd_space.specs.declared.step.Request.{Request}
 use Rattle.bd_space.specs.declared.step.Request.TheVariants.{Write}
@@ -8,7 +8,7 @@ use Rattle.bd_driver.specs.Driver as driver
 use Rattle.bd_driver.specs.Handing as handing
 use Rattle.bd_driver.specs.Served as served
 use Rattle.bd_driver.specs.declared.outcome.Outcome.{Outcome}
-use Rattle.bd_driver.specs.declared.outcome.Outcome.TheVariants.{Back}
+use Rattle.bd_driver.specs.declared.outcome.Outcome.TheVariants.{Back, Done as Answered}
 use Rattle.bd_driver.specs.declared.outcome.Served.{Served}
 use Rattle.bd_driver.specs.declared.page.Page.{Page}
 use Rattle.bd_driver.specs.declared.view.View.{View}
@@ -24,9 +24,22 @@ use Rattle.bd_c.specs.declared.status.Status.TheVariants.{Done, NoMemory, NoSuch
 abbrev pub Stays : OwnedSeat → OwnedSeat → Type 0
 Stays x y = (y.keyed ≡ x.keyed) × (y.seat.table ≡ x.seat.table)
 
+-- The seat is as it was. How much room it keeps is nothing that C sees.
+abbrev pub IsSame : OwnedSeat → OwnedSeat → Type 0
+IsSame x y = (y.keyed ≡ x.keyed) × (y.seat ≡ x.seat) × (y.latest ≡ x.latest)
+
+-- it keeps room for these bytes of a write
+abbrev pub HasRoom : OwnedSeat → List ℕ → List ℕ → Type 0
+HasRoom x stream area = (length stream ≤ vec_capacity x.stream) × (length area ≤ vec_capacity x.area)
+
 -- Nothing was done: the seat is as it was, and so is what the caller has for an answer.
 abbrev pub Nothing : OwnedSeat → OwnedSeat → Told → Told → Type 0
-Nothing x y a b = (y ≡ x) × (b ≡ a)
+Nothing x y a b = IsSame x y × (b ≡ a)
+
+-- an answer can be written there
+abbrev pub IsPlace : Option Outcome → Type 0
+IsPlace (Some (Answered answer start end)) = Unit {0}
+IsPlace _ = ⊥
 
 -- The seat keeps the outcome, and the caller is told it.
 abbrev pub Keeps : OwnedSeat → Outcome → Told → Type 0

@@ -1,12 +1,12 @@
 -- Commands and returns, as C has them: a code, and the fields of what has this code.
-use Rattle.std.specs.Prelude.{◌≡◌, ◌==◌, ℕ, zero, ◌⊎◌, List, [], ◌∷◌, length, Option, Some, None, Result, Ok, Err, pos, if◌then◌else◌}
+use Rattle.std.specs.Prelude.{◌≡◌, ◌==◌, ℕ, List, [], ◌∷◌, Option, Some, None, Result, Ok, Err, pos, if◌then◌else◌}
 use Rattle.bd_uapi.specs.declared.command.TransactionData.{TransactionData}
 use Rattle.bd_uapi.specs.declared.command.Command.{Command}
 use Rattle.bd_uapi.specs.declared.command.Command.TheVariants as command
 use Rattle.bd_uapi.specs.declared.command.Return.{Return}
 use Rattle.bd_uapi.specs.declared.command.Return.TheVariants as returned
 use Rattle.bd_uapi.specs.declared.fault.Fault.{Fault}
-use Rattle.bd_codec.specs.Spelling.{command_code, command_bytes, return_code, return_bytes}
+use Rattle.bd_codec.specs.Spelling.{command_code, return_code}
 use Rattle.bd_spelling.specs.Codes.{fault_number}
 use Rattle.bd_c.specs.declared.spelled.TransactionInC.{TransactionInC}
 use Rattle.bd_c.specs.declared.spelled.CommandInC.{CommandInC}

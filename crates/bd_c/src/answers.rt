@@ -78,7 +78,8 @@ impl Told {
     }
 
     // What is told of a request that was run, whose steps stand at these places.
-    fn done(answer: &Answer, from: u64, to: u64) -> Told
+    #[inline(always)]
+    pub(crate) fn done(answer: &Answer, from: u64, to: u64) -> Told
         ensures { result ≡ done_of answer.now from to }
     {
         match answer {

@@ -1,13 +1,15 @@
 //! The calls of a seat, whose answers it keeps.
-ghost use Rattle.std.specs.Prelude.{◌≡◌, Some};
-ghost use Rattle.std.specs.Prelude.{None};
-ghost use Rattle.bd_c.specs.{Told.{told_of}, Seats.{Stays, Asks, AsksAgain, given_back, Looks, Posts, Serves, Collects, Withdraws}};
+ghost use Rattle.std.specs.Prelude.{◌≡◌, ◌≤◌, [], length, vec_capacity, Some, None, OnOk};
+ghost use Rattle.bd_space.specs.declared.step.Request.TheVariants.{Write};
+ghost use Rattle.bd_c.specs.{Told.{told_of}, Seats.{Stays, IsSame, HasRoom, IsPlace, Asks, AsksAgain, given_back, Looks, Posts, Serves, Collects, Withdraws}};
 
 use crate::answers::Told;
 use crate::seat::OwnedSeat;
 use crate::status::Status;
 use bd_driver::{Outcome, Page, Served};
-use bd_space::Request;
+use bd_space::{Answer, Bytes, Request};
+use std::alloc::AllocError;
+use std::mem::replace;
 
 // Takes the request that came back, if one did; else what is there stays.
 fn take_request(latest: &mut Option<Outcome>) -> Option<Request>
@@ -21,6 +23,41 @@ fn take_request(latest: &mut Option<Outcome>) -> Option<Request>
             None
         }
     }
+}
+
+// Whatever came before, an answer can be written there.
+#[inline(always)]
+fn make_place(latest: &mut Option<Outcome>)
+    ensures { IsPlace latest.new }
+{
+    match latest {
+        Some(Outcome::Done { .. }) => {}
+        _ => *latest = new_place(),
+    }
+}
+
+#[inline(never)]
+fn new_place() -> Option<Outcome>
+    ensures { IsPlace result }
+{
+    Some(Outcome::Done {
+        answer: Answer::Set,
+        from: 0,
+        to: 0,
+    })
+}
+
+// These bytes in the memory that is there, for which it has room. None is left.
+fn taken(room: &mut Vec<u8>, bytes: &[u8]) -> Bytes
+    requires empty { room.old.items ≡ [] }
+    requires room { length bytes.now ≤ vec_capacity room.old }
+    ensures same { room.new.items ≡ [] }
+    ensures bytes { result ≡ bytes.now }
+{
+    let none = Vec::new(*room.allocator());
+    let mut copy = replace(room, none);
+    copy.extend_from_slice(bytes).unwrap();
+    Bytes::new(copy)
 }
 
 impl OwnedSeat {
@@ -39,6 +76,95 @@ impl OwnedSeat {
     }
 
     /// Has the driver run a request, and keeps and tells the outcome. Nothing is done while a request is handed over.
+    // Put into the call that C makes most: the answer is written where it is kept.
+    #[inline(always)]
+    pub(crate) fn run(&mut self, request: Request, told: &mut Told) -> Status
+        ensures stays { Stays self.old self.new }
+        ensures asks { Asks self.old self.new request result told.old told.new }
+    {
+        if self.seat.is_waiting() {
+            return Status::Waiting;
+        }
+        make_place(&mut self.latest);
+        let Some(latest) = &mut self.latest else {
+            unreachable!()
+        };
+        let Outcome::Done { answer, from, to } = latest else {
+            unreachable!()
+        };
+        match self.keyed.driver.run(&mut self.seat, &request, answer) {
+            Ok(span) => {
+                *from = span.from;
+                *to = span.to;
+                *told = Told::done(answer, u64::from(span.from), u64::from(span.to));
+            }
+            Err(why) => self.keep(Outcome::Back { request, why }, told),
+        }
+        Status::Done
+    }
+
+    // Room for a copy of the bytes of a write, should it come back. It stays with the seat.
+    #[inline(always)]
+    fn make_room(&mut self, stream: &[u8], area: &[u8]) -> Result<(), AllocError>
+        ensures same { IsSame self.old self.new }
+        ensures room { OnOk result (HasRoom self.new stream.now area.now) }
+    {
+        self.stream.reserve(stream.len())?;
+        self.area.reserve(area.len())
+    }
+
+    // The write of which these are the bytes, for which room was made.
+    #[inline(never)]
+    fn copied(&mut self, stream: &[u8], area: &[u8]) -> Request
+        requires { HasRoom self.old stream.now area.now }
+        ensures same { IsSame self.old self.new }
+        ensures request { result ≡ Write stream.now area.now }
+    {
+        Request::Write {
+            stream: taken(&mut self.stream, stream),
+            area: taken(&mut self.area, area),
+        }
+    }
+
+    /// Has the driver run a write, as `run` does, whose bytes are lent. They are copied only where the write comes back.
+    #[inline(always)]
+    pub(crate) fn write(&mut self, stream: &[u8], area: &[u8], told: &mut Told) -> Status
+        ensures stays { Stays self.old self.new }
+        ensures asks { Asks self.old self.new (Write stream.now area.now) result told.old told.new }
+    {
+        if self.seat.is_waiting() {
+            return Status::Waiting;
+        }
+        if self.make_room(stream, area).is_err() {
+            return Status::NoMemory;
+        }
+        make_place(&mut self.latest);
+        let Some(latest) = &mut self.latest else {
+            unreachable!()
+        };
+        let Outcome::Done { answer, from, to } = latest else {
+            unreachable!()
+        };
+        match self
+            .keyed
+            .driver
+            .write(&mut self.seat, stream, area, answer)
+        {
+            Ok(span) => {
+                *from = span.from;
+                *to = span.to;
+                *told = Told::done(answer, u64::from(span.from), u64::from(span.to));
+            }
+            Err(why) => {
+                let request = self.copied(stream, area);
+                self.keep(Outcome::Back { request, why }, told);
+            }
+        }
+        Status::Done
+    }
+
+    /// Has the driver run a request, and keeps and tells the outcome. Nothing is done while a request is handed over.
+    #[inline(never)]
     pub(crate) fn call(&mut self, request: Request, told: &mut Told) -> Status
         ensures stays { Stays self.old self.new }
         ensures asks { Asks self.old self.new request result told.old told.new }
@@ -46,9 +172,7 @@ impl OwnedSeat {
         if self.seat.is_waiting() {
             return Status::Waiting;
         }
-        let outcome = self.keyed.driver.call(&mut self.seat, request);
-        self.keep(outcome, told);
-        Status::Done
+        self.run(request, told)
     }
 
     /// Has the driver run the request that the latest call gave back. Its bytes aren't copied again.

@@ -1,6 +1,7 @@
 //! What C calls to have those woken who wait for a live engine: a bridge is a live engine that also knows who waits.
 ghost use Rattle.std.specs.Prelude.{◌≡◌, [], None};
 ghost use Rattle.bd_space.specs.Histories.{history_of};
+ghost use Rattle.bd_engine.specs.Begun.{refusals};
 ghost use Rattle.bd_bridge.specs.Suspects.{suspects_in};
 ghost use Rattle.bd_c.specs.{Status.{Reports}, Misuse.{IsMisuse}, Behind.{Of, Over, IsThere, IsLive, live_of}, Lives.{LiveOpensAt}};
 ghost use Rattle.bd_c.specs.Bridges.{Awaits, WaitsByFlag, GetsDoorbell, StopsReading, StopsWaiting, HasLooked};
@@ -8,7 +9,7 @@ ghost use Rattle.bd_c.specs.declared.status.Status.TheVariants.{Done};
 
 use crate::bridges::SignalTold;
 use crate::handles::Handle;
-use crate::lives::open_live;
+use crate::lives::{open_live, open_live_at};
 use crate::opening::put_made;
 use crate::status::Status;
 use std::alloc::Global;
@@ -26,8 +27,26 @@ pub extern "C" fn hullpippin_bridge_new(alloc: Global, seats: u32, live: &mut Ha
     put_made(live, open_live(alloc, seats, seats))
 }
 
-/// A seat's thread waits in a read from now on, with room for so many bytes. Where `defers` is 1, what it need not be told before
-/// the reply to a call of its own may be read for it meanwhile.
+/// Makes one that is as after so many refused steps, for tests of what is far behind the first: hullpippin.h hasn't got it.
+#[tactic(auto, using(crate::proofs::Behind::none_there))]
+#[unsafe(no_mangle)]
+pub extern "C" fn hullpippin_bridge_begun_at(
+    alloc: Global,
+    seats: u32,
+    steps: u64,
+    live: &mut Handle,
+) -> u32
+    ensures begins { live.old.held ≡ None → Reports result (LiveOpensAt (refusals seats steps) seats live.new.held) }
+    ensures misuse { IsThere live.old.held → IsMisuse result live.old.held live.new.held }
+{
+    if live.is_there() {
+        return Status::Misuse.number();
+    }
+    put_made(live, open_live_at(alloc, seats, steps, seats))
+}
+
+/// A seat's thread waits in a read from now on, with room for so many bytes. Where `defers` is 1 or 2, what it need not be told before
+/// the reply to a call of its own may be read for it meanwhile, or, with 2, left while it is a completion alone.
 #[unsafe(no_mangle)]
 pub extern "C" fn hullpippin_bridge_wait(
     alloc: Global,

@@ -1,10 +1,9 @@
 //! A live engine that also knows who waits: what C tells it of that, and whom it has C wake.
 ghost use Rattle.std.specs.Prelude.{◌≡◌};
-ghost use Rattle.bd_c.specs.Bridges.{status_of as status_of_it};
+ghost use Rattle.bd_c.specs.Bridges.{status_of as status_of_it, deferring_of as deferring_of_it};
 
 use crate::answers::Told;
 use crate::live::OwnedLive;
-use crate::requests::flag_of;
 use crate::status::Status;
 use bd_bridge::{Reading, Signal};
 use bd_bridge_live::NotMade;
@@ -65,9 +64,10 @@ impl SignalTold {
             kind: 1,
             seat,
             wakes,
+            rings: false,
+            is_left,
             status: status.number(),
             answer,
-            ..SignalTold::none(is_left)
         }
     }
 }
@@ -83,12 +83,24 @@ fn status_of(why: NotMade) -> Status
     }
 }
 
+// Whether what can wait for the reply may be read ahead, and whether what can rest is left.
+fn deferring_of(word: u32) -> Option<(bool, bool)>
+    ensures { result ≡ deferring_of_it word }
+{
+    match word {
+        0 => Some((false, false)),
+        1 => Some((true, false)),
+        2 => Some((true, true)),
+        _ => None,
+    }
+}
+
 impl OwnedLive {
     ghost use Rattle.bd_c.specs.Bridges.{Awaits, BeginsToRead, WaitsByFlag, GetsDoorbell, StopsReading, StopsWaiting, HasLooked};
 
     /// A seat's thread waits in a read from now on.
     pub(crate) fn wait(&mut self, alloc: Global, seat: u32, reading: Reading) -> Status
-        ensures { Awaits (BeginsToRead reading.room reading.defers) self.old self.new seat result }
+        ensures { Awaits (BeginsToRead reading.room reading.defers reading.leaves) self.old self.new seat result }
     {
         if seat >= self.bridge.seats() {
             return Status::NoSuchSeat;
@@ -99,7 +111,7 @@ impl OwnedLive {
         }
     }
 
-    /// The same, where 1 says that it defers, and 0 that it doesn't.
+    /// The same, where a number says what it need not be told.
     pub(crate) fn wait_by_flag(
         &mut self,
         alloc: Global,
@@ -109,9 +121,17 @@ impl OwnedLive {
     ) -> Status
         ensures { WaitsByFlag room defers self.old self.new seat result }
     {
-        match flag_of(defers) {
-            Ok(defers) => self.wait(alloc, seat, Reading { room, defers }),
-            Err(status) => status,
+        match deferring_of(defers) {
+            Some((defers, leaves)) => self.wait(
+                alloc,
+                seat,
+                Reading {
+                    room,
+                    defers,
+                    leaves,
+                },
+            ),
+            None => Status::NoSuchRequest,
         }
     }
 
@@ -155,15 +175,14 @@ impl OwnedLive {
         ensures { HasLooked self.old self.new looks told.new }
     {
         let from = self.bridge.engine.live.len();
-        let signal = self.bridge.settle_one(looks);
+        let signal = self.bridge.settle_one(looks, &mut self.latest);
         let is_left = !self.bridge.is_settled();
         *told = match signal {
             None => SignalTold::none(is_left),
             Some(Signal::Bell { seat, rings }) => SignalTold::bell(seat, rings, is_left),
             Some(Signal::Read { seat, read, wakes }) => match read {
-                Ok(entry) => {
-                    let answer = Told::of_step(&entry.answer, from, self.bridge.engine.live.len());
-                    self.latest = Some(entry);
+                Ok(()) => {
+                    let answer = self.tell_latest(from);
                     std::mem::swap(&mut self.ended, &mut self.bridge.engine.ended);
                     SignalTold::read(seat, wakes, is_left, Status::Done, answer)
                 }

@@ -42,11 +42,14 @@ impl Host {
         let Ok(keyed) = Arc::try_clone(&self.keyed) else {
             return Err(Status::NoMemory);
         };
+        let alloc = *self.seats.allocator();
         let seat = self.seats.remove(0);
         Ok(OwnedSeat {
             keyed,
             seat,
             latest: None,
+            stream: Vec::new(alloc),
+            area: Vec::new(alloc),
         })
     }
 
@@ -74,6 +77,8 @@ impl Host {
             keyed: _,
             seat,
             latest: _,
+            stream: _,
+            area: _,
         } = seat;
         self.seats.push_reserved(seat);
     }

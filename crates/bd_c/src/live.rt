@@ -1,11 +1,12 @@
 //! A live engine that C has, who waits for it, the entry of its latest step, which buffers ended by it, which seats had something to
 //! read, and which todo lists were filled or emptied.
-ghost use Rattle.std.specs.Prelude.{◌≡◌, ◌<◌, [], IfOk, IfErr, MatchBool};
+ghost use Rattle.std.specs.Prelude.{◌≡◌, ◌<◌, [], length, IfOk, IfErr, IfSome, MatchBool};
 ghost use Rattle.bd_space.specs.Histories.{History, history_of};
 ghost use Rattle.bd_engine.specs.Begun.{refusals};
 ghost use Rattle.bd_engine.specs.Follows.{Follows};
 ghost use Rattle.bd_bridge_live.specs.Live.{IsCommand};
 ghost use Rattle.bd_c.specs.declared.status.Status.TheVariants.{NoMemory};
+ghost use Rattle.bd_c.specs.Told.{told_of_step};
 ghost use Rattle.bd_c.specs.Lives.{Begins, IsBridged, IsLiveRefusal, Steps};
 
 use crate::answers::Told;
@@ -88,13 +89,30 @@ impl OwnedLive {
 
     /// One that is as after so many refused steps.
     #[tactic(auto, using(crate::proofs::Behind::live_refused_fits))]
-    pub(crate) fn begun_at(alloc: Global, seats: u32, steps: u64) -> Result<OwnedLive, Status>
-        ensures ok { IfOk result (Begins (refusals seats steps) 0) }
+    pub(crate) fn begun_at(
+        alloc: Global,
+        seats: u32,
+        steps: u64,
+        waiting: u32,
+    ) -> Result<OwnedLive, Status>
+        ensures ok { IfOk result (Begins (refusals seats steps) waiting) }
         ensures refused { IfErr result (IsLiveRefusal seats) }
     {
         match Live::begun_at(alloc, seats, steps) {
-            Ok(live) => OwnedLive::around(alloc, live, 0),
+            Ok(live) => OwnedLive::around(alloc, live, waiting),
             Err(fault) => Err(Status::of_fault(fault)),
+        }
+    }
+
+    // What is told of the latest entry, which has a place from this one on.
+    #[inline(always)]
+    pub(crate) fn tell_latest(&self, from: u64) -> Told
+        ensures { IfSome self.now.latest (λ e. (h : History) → Follows self.now.bridge.engine.live h
+            → result ≡ told_of_step e.answer from (length h.entries)) }
+    {
+        match &self.latest {
+            Some(entry) => Told::of_step(&entry.answer, from, self.bridge.engine.live.len()),
+            None => Told::placed(0, 0, 0),
         }
     }
 
@@ -131,10 +149,9 @@ impl OwnedLive {
             return Status::Waiting;
         }
         let from = self.bridge.engine.live.len();
-        match self.bridge.step(seat, step) {
-            Ok(entry) => {
-                *told = Told::of_step(&entry.answer, from, self.bridge.engine.live.len());
-                self.latest = Some(entry);
+        match self.bridge.step(seat, step, &mut self.latest) {
+            Ok(()) => {
+                *told = self.tell_latest(from);
                 std::mem::swap(&mut self.ended, &mut self.bridge.engine.ended);
                 Status::Done
             }

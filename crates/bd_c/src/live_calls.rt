@@ -44,7 +44,7 @@ pub extern "C" fn hullpippin_live_begun_at(
     if live.is_there() {
         return Status::Misuse.number();
     }
-    put_made(live, open_live_at(alloc, seats, steps))
+    put_made(live, open_live_at(alloc, seats, steps, 0))
 }
 
 // Makes a step.

@@ -20,10 +20,15 @@ pub(crate) fn open_live(alloc: Global, seats: u32, waiting: u32) -> Result<Box<H
 }
 
 /// One that is as after so many refused steps.
-pub(crate) fn open_live_at(alloc: Global, seats: u32, steps: u64) -> Result<Box<Held>, Status>
-    ensures ok { IfOk result (λ b. Of live_of (Some b.value) (Begins (refusals seats steps) 0)) }
+pub(crate) fn open_live_at(
+    alloc: Global,
+    seats: u32,
+    steps: u64,
+    waiting: u32,
+) -> Result<Box<Held>, Status>
+    ensures ok { IfOk result (λ b. Of live_of (Some b.value) (Begins (refusals seats steps) waiting)) }
     ensures refused { IfErr result (IsLiveRefusal seats) }
 {
-    let live = OwnedLive::begun_at(alloc, seats, steps)?;
+    let live = OwnedLive::begun_at(alloc, seats, steps, waiting)?;
     boxed(alloc, Held::Live(live))
 }

@@ -10,10 +10,9 @@ use crate::answers::Told;
 use crate::handles::Handle;
 use crate::pages::PageTold;
 use crate::parts::{NoteTold, bytes_of, fill, notes_of, tell_note};
-use crate::requests::{flag_of, write};
+use crate::requests::flag_of;
 use crate::status::Status;
 use bd_space::Request;
-use std::alloc::Global;
 
 // Makes a request of the seat that is behind the handle, and answers the number of the call's status.
 #[inline(always)]
@@ -78,10 +77,8 @@ pub extern "C" fn hullpippin_set_spam(seat: &mut Handle, on: u32, told: &mut Tol
 }
 
 /// Runs the commands of a stream, whose parcels are cut from the area.
-#[tactic(auto, using(crate::proofs::Answering::write_refused))]
 #[unsafe(no_mangle)]
 pub extern "C" fn hullpippin_write(
-    alloc: Global,
     seat: &mut Handle,
     stream: &[u8],
     area: &[u8],
@@ -93,10 +90,7 @@ pub extern "C" fn hullpippin_write(
     let Some(seat) = seat.seat() else {
         return Status::Misuse.number();
     };
-    match write(alloc, stream, area) {
-        Ok(request) => seat.call(request, told).number(),
-        Err(_) => Status::NoMemory.number(),
-    }
+    seat.write(stream, area, told).number()
 }
 
 /// Reads returns, whose bytes stay with the seat.
@@ -105,7 +99,10 @@ pub extern "C" fn hullpippin_read(seat: &mut Handle, limit: u32, told: &mut Told
     ensures asks { IsSeat seat.old.held → Reports result (AsksAt seat.old.held seat.new.held (Read limit) told.old told.new) }
     ensures misuse { (IsSeat seat.old.held → ⊥) → IsMisuse result seat.old.held seat.new.held × (told.new ≡ told.old) }
 {
-    ask(seat, Request::Read { limit }, told)
+    let Some(seat) = seat.seat() else {
+        return Status::Misuse.number();
+    };
+    seat.run(Request::Read { limit }, told).number()
 }
 
 /// Ends the seat's thread.

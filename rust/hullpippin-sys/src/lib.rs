@@ -66,7 +66,7 @@ pub const HULLPIPPIN_NOT_WAITING: u32 = 3;
 pub const HULLPIPPIN_TAKEN: u32 = 4;
 
 /// Post: there is no such kind of request; post, set_spam, live_set_spam: `on` is neither 0 nor 1; bridge_wait: nor is
-/// `defers`; again: none came back.
+/// `defers` one of its numbers; again: none came back.
 pub const HULLPIPPIN_NO_SUCH_REQUEST: u32 = 5;
 
 /// New: the number of seats isn't 1 to 31; live_new: 1 to 65536.
@@ -433,6 +433,15 @@ pub const HULLPIPPIN_LIST_OF_PROCESS: u32 = 1;
 
 /// Any list at all: the engine doesn't know which ones.
 pub const HULLPIPPIN_ANY_LIST: u32 = 2;
+
+/// It is told of all.
+pub const HULLPIPPIN_TELLS_ALL: u32 = 0;
+
+/// Such may be read for it meanwhile, and it waits on.
+pub const HULLPIPPIN_READS_AHEAD: u32 = 1;
+
+/// The same; and a completion alone is left, to be read along with what comes behind it.
+pub const HULLPIPPIN_LEAVES: u32 = 2;
 
 /// Nobody who was looked at is to be told anything.
 pub const HULLPIPPIN_SIGNAL_NONE: u32 = 0;
@@ -1150,11 +1159,9 @@ extern "C" {
     pub fn hullpippin_bridge_new(seats: u32, live: *mut hullpippin_live) -> u32;
 
     /// The seat's thread waits in a read from now on, with room for `room` bytes, which is at least 72; where it waits
-    /// in one already, this one takes its place. Where `defers` is 1, and not 0, what it need not be told before the
-    /// reply to a call of its own may be read for it meanwhile, and it waits on: BR_TRANSACTION_COMPLETE, BR_INCREFS
-    /// and BR_ACQUIRE. That it is in a call, and serves none inside of that, is asked of the engine. Also NO_SUCH_SEAT,
-    /// where the engine is no bridge too; NO_MEMORY: then it waits as before; and NO_SUCH_REQUEST, where `defers` is
-    /// neither 0 nor 1.
+    /// in one already, this one takes its place. `defers` is one of the numbers above. Also NO_SUCH_SEAT, where the
+    /// engine is no bridge too; NO_MEMORY: then it waits as before; and NO_SUCH_REQUEST, where `defers` is none of
+    /// them.
     pub fn hullpippin_bridge_wait(live: *mut hullpippin_live, seat: u32, room: u32, defers: u32) -> u32;
 
     /// The seat's thread has a doorbell from now on, which is silent: it is told each time that it comes to have

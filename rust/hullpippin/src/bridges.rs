@@ -4,6 +4,28 @@ use crate::status::checked;
 use crate::{Error, Live, Made};
 use hullpippin_sys as sys;
 
+/// What a thread that waits in a read need not be told before the reply to a call of its own: that its call was taken, and what it is told of
+/// the objects that it has sent along.
+#[derive(Clone, Copy, Debug, PartialEq, Eq)]
+pub enum Defers {
+    /// It is told of all.
+    Nothing,
+    /// Such may be read for it meanwhile, and it waits on.
+    ReadsAhead,
+    /// The same; and that its call was taken is left alone, to be read along with what comes behind it.
+    Leaves,
+}
+
+impl Defers {
+    fn number(self) -> u32 {
+        match self {
+            Defers::Nothing => sys::HULLPIPPIN_TELLS_ALL,
+            Defers::ReadsAhead => sys::HULLPIPPIN_READS_AHEAD,
+            Defers::Leaves => sys::HULLPIPPIN_LEAVES,
+        }
+    }
+}
+
 /// What somebody who waits is told.
 #[derive(Clone, Debug, PartialEq, Eq)]
 pub enum Signal {
@@ -30,14 +52,14 @@ pub enum Signal {
 /// `settle` says that somebody is left.
 ///
 /// ```
-/// use hullpippin::{Live, Parcel, Signal, ONE_WAY};
+/// use hullpippin::{Defers, Live, Parcel, Signal, ONE_WAY};
 ///
 /// # fn main() -> Result<(), hullpippin::Error> {
 /// let mut live = Live::bridge(2)?;
 /// live.open(0, 100, 1000, 4096)?;
 /// live.manager(0)?;
 /// live.command(0, &hullpippin::Command::EnterLooper)?;
-/// live.wait(0, 256, false)?;
+/// live.wait(0, 256, Defers::Nothing)?;
 /// assert_eq!(live.settle(8), (None, false));
 /// live.open(1, 200, 1000, 4096)?;
 /// live.transact(1, 0, 7, ONE_WAY, &Parcel::new())?;
@@ -51,11 +73,10 @@ impl Live {
         Live::begun(|live| unsafe { sys::hullpippin_bridge_new(seats, live) })
     }
 
-    /// The seat's thread waits in a read from now on, with room for so many bytes, at least 72. Where it `defers`, what it need not be told
-    /// before the reply to a call of its own may be read for it meanwhile, and it waits on.
-    pub fn wait(&mut self, seat: u32, room: u32, defers: bool) -> Result<(), Error> {
+    /// The seat's thread waits in a read from now on, with room for so many bytes, at least 72.
+    pub fn wait(&mut self, seat: u32, room: u32, defers: Defers) -> Result<(), Error> {
         // SAFETY: here and in what follows the handle has an engine.
-        checked(unsafe { sys::hullpippin_bridge_wait(self.handle(), seat, room, defers.into()) })
+        checked(unsafe { sys::hullpippin_bridge_wait(self.handle(), seat, room, defers.number()) })
     }
 
     /// The seat's thread has a doorbell from now on, which is silent.

@@ -48,7 +48,7 @@ mod status;
 mod waiting;
 
 pub use answers::{Answer, Outcome, Request, Stop, Why};
-pub use bridges::Signal;
+pub use bridges::{Defers, Signal};
 pub use certificates::{call_of_reply, chain_of, turns_of, Turn};
 pub use commands::{Command, TransactionData, ACCEPT_FDS, CLEAR_BUF, ONE_WAY, ROOT_OBJECT, STATUS_CODE, UPDATE_TXN};
 pub use driver::{verdict_on, Driver, History, Page, Seat, Verdict};

@@ -1,8 +1,8 @@
 // SPDX-License-Identifier: Apache-2.0 OR MIT
 //! Runs over the library: what this crate spells is what the engine reads, and the other way round.
 use hullpippin::{
-    call_of_reply, chain_of, turns_of, verdict_on, Answer, Cause, Command, Driver, Error, Fault, FlatObject, Kept, Live, Note,
-    ObjectId, Outcome, Parcel, Request, Return, Seat, Signal, Stop, TodoList, TransactionData, Turn, Verdict, Why, Work, ONE_WAY,
+    call_of_reply, chain_of, turns_of, verdict_on, Answer, Cause, Command, Defers, Driver, Error, Fault, FlatObject, Kept, Live,
+    Note, ObjectId, Outcome, Parcel, Request, Return, Seat, Signal, Stop, TodoList, TransactionData, Turn, Verdict, Why, Work, ONE_WAY,
 };
 use hullpippin_sys as sys;
 use std::thread;
@@ -116,7 +116,7 @@ fn nobody_who_waits_is_forgotten() {
     live.attach(1, 100).expect("a step");
     for seat in [0, 1] {
         live.command(seat, &Command::EnterLooper).expect("a step");
-        live.wait(seat, 256, false).expect("it waits");
+        live.wait(seat, 256, Defers::Nothing).expect("it waits");
     }
     assert_eq!(live.settle(16), (None, false));
     for seat in [2, 3] {
@@ -134,7 +134,7 @@ fn nobody_who_waits_is_forgotten() {
     assert_eq!(live.settle(16), (Some(Signal::Bell { seat: 2, rings: true }), false));
     assert_eq!(live.attach(2, 100), Err(Error::Waiting));
     live.stop_waiting(2).expect("it stops");
-    assert_eq!(live.wait(9, 256, false), Err(Error::NoSuchSeat));
+    assert_eq!(live.wait(9, 256, Defers::Nothing), Err(Error::NoSuchSeat));
 }
 
 #[test]

@@ -6,4 +6,4 @@ pub returns-clause-watched : goal.returns-clause-watched
 returns-clause-watched g c = λ h was.
     let e = g.E.Engine in
     let inside : c.args.seat < c.seats-seats.result = rw c.seats-seats.ensures c.requires in
-    with_that (e.Sees h) (e.IsOf h) c.args.self.now.waiters c.args.self.now.suspects c.add.new.self c.args.seat (c.add.ensures.added inside) c.add.ensures.kept was
+    with_that (e.Sees h) (e.IsOf h) (e.CanRest h) c.args.self.now.waiters c.args.self.now.suspects c.add.new.self c.args.self.now.resting c.args.seat (c.add.ensures.added inside) c.add.ensures.kept was

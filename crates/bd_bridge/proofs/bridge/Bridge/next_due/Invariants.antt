@@ -8,6 +8,6 @@ invariant-loop-look g l = record {
   engine : l.self.engine ≡ l.initial.self.engine;
   progress : suspects_in l.self.suspects + l.look ≡ suspects_in l.initial.self.suspects;
   watched : (h : g.E.Engine.World) → g.E.Engine.Follows l.initial.self.engine h
-      → NobodyIsForgotten (g.E.Engine.Sees h) (g.E.Engine.IsOf h) l.initial.self.waiters l.initial.self.suspects
-      → NobodyIsForgotten (g.E.Engine.Sees h) (g.E.Engine.IsOf h) l.self.waiters l.self.suspects;
+      → NobodyIsForgotten (g.E.Engine.Sees h) (g.E.Engine.IsOf h) (g.E.Engine.CanRest h) l.initial.self.waiters l.initial.self.suspects l.initial.self.resting
+      → NobodyIsForgotten (g.E.Engine.Sees h) (g.E.Engine.IsOf h) (g.E.Engine.CanRest h) l.self.waiters l.self.suspects l.self.resting;
 }

@@ -1,5 +1,5 @@
-use Rattle.std.proofs.Common.{List, [], ap, arith, length, length-append, rules, sym, ◌++◌, ◌∙◌, ◌∷◌, ◌≡◌}
-use Rattle.bd_bridge.specs.{Signals.{world_then}, Suspects.{suspects_in}}
+use Rattle.std.proofs.Common.{List, [], ap, arith, length, length-append, sym, ◌++◌, ◌∙◌, ◌∷◌, ◌≡◌, refl}
+use Rattle.bd_bridge.specs.{Signals.{world_then, answered}, Suspects.{suspects_in}}
 use Rattle.bd_bridge.proofs.{Forgetting.{taken, told_rightly}, Signalling.{on_more, on_none}}
 use Rattle.bd_bridge.proofs.bridge.Bridge.settle.Goals.{in-Some-look, in_default}
 use Rattle.bd_bridge.proofs.bridge.Bridge.settle.Goals as goal
@@ -30,22 +30,24 @@ loop-look-preserved g c =
         on = λ h follows was.
             let on = inv.on h follows was in
             let here = world_then e.has_read h c.loop-look.signals.items in
-            let but = taken (e.Sees here) (e.IsOf here) table c.loop-look.self.suspects c.take.new.self seat c.in-Some.ensures.taken on.watched in
-            let leaves = w.in-Some-look.ensures.watched here on.follows but in
-            rw w.push_reserved.ensures.items (on_more e.Follows e.Sees e.IsOf e.has_read e.CanWait h _ _ now.engine table now.waiters now.suspects
-            on.had _ seat w.in-Some-look.ensures.of (w.in-Some-look.ensures.due here on.follows) w.in-Some-look.ensures.waits leaves);
+            let but = taken (e.Sees here) (e.IsOf here) (e.CanRest here) table c.loop-look.self.suspects c.take.new.self c.loop-look.self.resting seat c.in-Some.ensures.taken on.watched in
+            let leaves = w.in-Some-look.ensures.told here on.follows but in
+            let y = answered e.answer c.look.new.kept w.in-Some-look.signal in
+            rw w.push_reserved.ensures.items (rw w.taken.ensures (on_more e.Follows e.Sees e.IsOf e.has_read e.CanWait e.CanRest h _ _ now.engine table now.waiters now.suspects now.resting
+            on.had y _ refl (w.in-Some-look.ensures.due here on.follows) w.in-Some-look.ensures.waits leaves));
       })
       | in_default w ↦ rw w.signals-is (record {
         room = omega (arith, inv.room);
         capacity = inv.capacity;
         seats = c.look.ensures.seats ∙ inv.seats;
-        progress = λ none. let same = ap suspects_in (w.in_default.ensures.none (search rules)).1 in omega (arith, inv.progress none, c.in-Some.ensures.fewer, same);
+        progress = λ none. let same = ap suspects_in (w.in_default.ensures.none refl).1 in omega (arith, inv.progress none, c.in-Some.ensures.fewer, same);
         on = λ h follows was.
             let on = inv.on h follows was in
             let here = world_then e.has_read h c.loop-look.signals.items in
-            let but = taken (e.Sees here) (e.IsOf here) table c.loop-look.self.suspects c.take.new.self seat c.in-Some.ensures.taken on.watched in
-            let leaves = w.in_default.ensures.watched here on.follows but in
-            on_none e.Follows e.Sees e.IsOf e.has_read e.CanWait h _ _ now.engine table now.waiters now.suspects
-            on.had (w.in_default.ensures.none (search rules)).0 leaves;
+            let but = taken (e.Sees here) (e.IsOf here) (e.CanRest here) table c.loop-look.self.suspects c.take.new.self c.loop-look.self.resting seat c.in-Some.ensures.taken on.watched in
+            let same = w.in_default.ensures.none refl in
+            let leaves = w.in_default.ensures.untold refl here on.follows but in
+            on_none e.Follows e.Sees e.IsOf e.has_read e.CanWait e.CanRest h _ _ now.engine table now.waiters now.suspects now.resting
+            on.had same.0 (rw same.2 on.follows, leaves);
       })
     ]

@@ -9,6 +9,6 @@ invariant-loop-look g l = record {
   seats : seats_in l.self.waiters ≡ seats_in l.initial.self.waiters;
   progress : l.signals.items ≡ [] → suspects_in l.self.suspects + l.look ≡ suspects_in l.initial.self.suspects;
   on : (h : g.E.Engine.World) → g.E.Engine.Follows l.initial.self.engine h
-      → NobodyIsForgotten (g.E.Engine.Sees h) (g.E.Engine.IsOf h) l.initial.self.waiters l.initial.self.suspects
-      → HasSettled g.E.Engine.Follows g.E.Engine.Sees g.E.Engine.IsOf g.E.Engine.has_read g.E.Engine.CanWait h l.initial.self.waiters l.signals.items l.self.engine l.self.waiters l.self.suspects;
+      → NobodyIsForgotten (g.E.Engine.Sees h) (g.E.Engine.IsOf h) (g.E.Engine.CanRest h) l.initial.self.waiters l.initial.self.suspects l.initial.self.resting
+      → HasSettled g.E.Engine.Follows g.E.Engine.Sees g.E.Engine.IsOf g.E.Engine.has_read g.E.Engine.CanWait g.E.Engine.CanRest h l.initial.self.waiters l.signals.items l.self.engine l.self.waiters l.self.suspects l.self.resting;
 }

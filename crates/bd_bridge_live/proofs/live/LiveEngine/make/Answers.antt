@@ -18,11 +18,15 @@ returns-in-Ok-clause-reaches c = λ h k t p b apart of sees.
     (λ not_so. inr (any_names c.tell.new.reached t p (c.tell.ensures.unknown not_so)))
 
 pub returns-in-Ok-clause-made : goal.returns-in-Ok-clause-made
-returns-in-Ok-clause-made c = record {
-  seat_is = c.in-Ok.ensures.seat;
-  step_is = c.in-Ok.ensures.step;
-  seats = c.tell.ensures.seats ∙ c.in-Ok.ensures.seats;
-  answer = c.in-Ok.ensures.answer;
-  follows = λ h f. c.tell.ensures.follows _ (c.in-Ok.ensures.follows h f);
-  ended = λ h f. c.tell.ensures.ended ∙ c.in-Ok.ensures.ended h f;
-}
+returns-in-Ok-clause-made c = (
+  c.in-Ok.entry,
+  refl,
+  record {
+    seat_is = c.in-Ok.ensures.seat;
+    step_is = c.in-Ok.ensures.step;
+    seats = c.tell.ensures.seats ∙ c.in-Ok.ensures.seats;
+    answer = c.in-Ok.ensures.answer;
+    follows = λ h f. c.tell.ensures.follows _ (c.in-Ok.ensures.follows h f);
+    ended = λ h f. c.tell.ensures.ended ∙ c.in-Ok.ensures.ended h f;
+  },
+)

@@ -1,4 +1,4 @@
-use Rattle.std.proofs.Common.{rules, ◌≡◌, ◌≤◌, ◌-◌, ◌++◌, ◌∙◌, ℕ, false, length, take, drop, replicate, vec_len, refl, ap, arith}
+use Rattle.std.proofs.Common.{rules, ◌≡◌, ◌-◌, ◌++◌, ◌∙◌, ℕ, false, length, take, drop, replicate, vec_len, refl, ap, arith}
 use Rattle.std.proofs.Math.Seq.{take-append_seam}
 use Rattle.bd_c.proofs.Noting.{polled}
 use Rattle.bd_c.proofs.live.OwnedLive.poll.Goals as goal

@@ -1,4 +1,4 @@
-use Rattle.std.proofs.Common.{◌≡◌, ◌<◌, ◌≤◌, ◌+◌, ◌*◌, ◌/◌, ◌%◌, ◌∙◌, length, arith}
+use Rattle.std.proofs.Common.{◌≡◌, ◌<◌, ◌≤◌, ◌+◌, ◌*◌, ◌%◌, ◌∙◌, length, arith}
 use Rattle.bd_uapi.specs.Bytes.{long_at}
 use Rattle.bd_c.proofs.Walking.{at_end, at_next, within}
 use Rattle.bd_c.proofs.walks.WalkInC.next.Goals as goal
