@@ -39,6 +39,7 @@ static bool begin(struct run *run)
         if (!makes(run, "take_seat", take_seat, i))
             return false;
         run->kept[i] = kept_by(&run->seats[i]);
+        run->room[i][0] = run->room[i][1] = 0;
     }
     return true;
 }
@@ -138,9 +139,31 @@ static uint32_t answered(struct run *run, uint32_t number, uint32_t status, stru
     return status;
 }
 
+static size_t larger(size_t one, size_t other)
+{
+    return one > other ? one : other;
+}
+
+/* The bytes of a write are lent to the engine. A seat asks for memory ahead of it only where the write is longer than those before: for room
+   for a copy, which a write that comes back takes along. */
+static void note_room(struct run *run, const struct line *line, uint32_t status, uint32_t kind)
+{
+    size_t *room = run->room[line->seat];
+    if (status == HULLPIPPIN_NO_MEMORY && line->stream.size <= room[0] && line->area.size <= room[1])
+        fails("a seat that has room for a write asks for more");
+    if (status != HULLPIPPIN_DONE)
+        return;
+    bool is_back = kind == HULLPIPPIN_BACK;
+    room[0] = is_back ? 0 : larger(room[0], line->stream.size);
+    room[1] = is_back ? 0 : larger(room[1], line->area.size);
+}
+
 static uint32_t call(struct run *run, const struct line *line, struct outcome *outcome)
 {
-    return answered(run, line->seat, ask(&run->seats[line->seat], line, &outcome->answer), outcome);
+    uint32_t status = ask(&run->seats[line->seat], line, &outcome->answer);
+    if (line->request.kind == HULLPIPPIN_WRITE)
+        note_room(run, line, status, outcome->answer.kind);
+    return answered(run, line->seat, status, outcome);
 }
 
 /* ---- handed over */

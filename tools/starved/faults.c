@@ -41,12 +41,16 @@ uint32_t __wrap_hullpippin_open(hullpippin_seat *seat, uint32_t pid, uint32_t eu
     return status;
 }
 
-/* What is written after a write that came back has another first byte in its area. */
+/* What is written after a write that came back has another first byte in its area; or each write asks for memory of its own. */
 uint32_t __wrap_hullpippin_write(hullpippin_seat *seat, const uint8_t *stream, size_t stream_size, const uint8_t *area, size_t area_size,
                                  hullpippin_answer *answer)
 {
     static bool came_back;
     uint8_t other[64];
+    void *volatile copy = is_fault("copy") ? malloc(stream_size + 1) : NULL;
+    if (is_fault("copy") && !copy)
+        return HULLPIPPIN_NO_MEMORY;
+    free(copy);
     if (came_back && area_size > 0 && area_size <= sizeof other) {
         memcpy(other, area, area_size);
         other[0] ^= 1;

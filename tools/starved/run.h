@@ -25,6 +25,8 @@ struct run {
     hullpippin_live live;
     /* What each seat's latest answer has besides its numbers, as a sum. */
     uint64_t kept[MOST_SEATS];
+    /* The longest stream and area that each seat wrote by a call since a write of its came back: it has room for so many bytes. */
+    size_t room[MOST_SEATS][2];
     /* Of a live engine, undisturbed: what all looks tell once it has made so many steps. */
     uint64_t sums[MOST_STEPS + 1];
     /* All that a live engine's polls tell, as a sum. */
