@@ -200,8 +200,26 @@ pub(crate) fn note(number: u32) -> Note {
 
 /// What the library has of an answer besides its numbers.
 pub(crate) trait Fetched {
-    /// A part of what was read, the returns, the data or the offsets, which has so many bytes.
-    fn bytes(&mut self, part: u32, size: usize) -> Vec<u8>;
+    /// Copies a part of what was read, the returns, the data or the offsets, to where there is room for so many bytes, and answers how many
+    /// the part has.
+    ///
+    /// # Safety
+    ///
+    /// So many bytes from `out` on can be written.
+    unsafe fn copy(&mut self, part: u32, out: *mut u8, room: usize) -> usize;
+
+    /// A part of what was read, which has so many bytes.
+    fn bytes(&mut self, part: u32, size: usize) -> Vec<u8> {
+        let mut bytes = Vec::with_capacity(size);
+        if size > 0 {
+            // SAFETY: there is room for so many bytes, and the library fills as many of it as it tells.
+            unsafe {
+                let told = self.copy(part, bytes.as_mut_ptr(), size);
+                bytes.set_len(told.min(size));
+            }
+        }
+        bytes
+    }
 
     /// What a request that was run came to; the notes are told apart.
     fn told(&mut self, told: &sys::hullpippin_answer, notes: Vec<(u32, Note)>, consumed: u32) -> Answer {

@@ -307,12 +307,8 @@ impl Seat {
 }
 
 impl Fetched for Seat {
-    fn bytes(&mut self, part: u32, size: usize) -> Vec<u8> {
-        let mut bytes = vec![0; size];
-        // SAFETY: the bytes are so many.
-        let told = unsafe { sys::hullpippin_answer_bytes(&mut self.handle, part, bytes.as_mut_ptr(), size) };
-        debug_assert_eq!(told, size);
-        bytes
+    unsafe fn copy(&mut self, part: u32, out: *mut u8, room: usize) -> usize {
+        sys::hullpippin_answer_bytes(&mut self.handle, part, out, room)
     }
 }
 
