@@ -37,6 +37,27 @@ module _ {V : Type 0} (f : WordKey → Option V) where
           ap (λ z. option_or z (h (f l))) n ∙ sym (ap (λ z. h (option_or z (f l))) n)
       at false e = refl
 
+  -- what is at a key is at the same key
+  pub at_same : (h : Option V → Option V) (k l : WordKey)
+      → cond (same_word k l) (h (f k)) (f l) ≡ cond (same_word k l) (h (f l)) (f l)
+  at_same h k l = at (same_word k l) refl
+    where
+      at : (b : Bool) → same_word k l ≡ b → cond b (h (f k)) (f l) ≡ cond b (h (f l)) (f l)
+      at true e = ap (λ z. h (f z)) (word_eq k l e)
+      at false e = refl
+
+  -- what is there stays
+  pub stays : (k l : WordKey) (v : V) → is_some (f k) ≡ true → f l ≡ cond (same_word k l) (option_or (f k) (Some v)) (f l)
+  stays k l v there = at (same_word k l) refl
+    where
+      some : (o : Option V) → is_some o ≡ true → o ≡ option_or o (Some v)
+      some None t = absurd (cc)
+      some (Some x) t = refl
+
+      at : (b : Bool) → same_word k l ≡ b → f l ≡ cond b (option_or (f k) (Some v)) (f l)
+      at true e = ap f (sym (word_eq k l e)) ∙ some (f k) there
+      at false e = refl
+
   -- at another key it isn't
   elsewhere : (o : Option (Latest V)) (k l : WordKey) → is_some (latest_at o k) ≡ true → same_word k l ≡ false
       → latest_at o l ≡ None

@@ -1,7 +1,7 @@
 //! Values by process and word.
 
 ghost use Rattle.std.specs.Prelude.{◌≡◌, ◌+◌, ◌*◌, ◌≤◌, if◌then◌else◌, Some, None, OnOk, OnErr, is_some, false};
-ghost use Rattle.std.specs.Option.{ForSome, option_map};
+ghost use Rattle.std.specs.Option.{ForSome, option_map, option_or};
 ghost use Rattle.bd_keys.specs.Treed.{tree_look, map_room};
 
 use crate::key::WordKey;
@@ -104,6 +104,21 @@ impl<V: Copy> WordMap<V> {
         self.settle();
         let _gone = self.others.remove(k);
         self.latest = Some(Latest { key: k, value: v });
+    }
+
+    /// Puts a value at a key that has none. A new key takes room.
+    #[tactic(auto, unfolding(crate::specs::Look::word_room))]
+    pub fn fill(&mut self, k: WordKey, v: V)
+        requires { 1 ≤ word_room self.old }
+        ensures put { (l : WordKey) → look self.new l
+            ≡ (if same_word k l then option_or (look self.old k) (Some v) else look self.old l) }
+        ensures room { word_room self.old ≤ word_room self.new + 1 }
+        ensures keys { key_count self.new ≤ key_count self.old + 1 }
+    {
+        if self.latest_value(k).is_some() {
+            return;
+        }
+        self.others.fill(k, v);
     }
 
     /// Changes the value at a key, if there is one. Takes no room.

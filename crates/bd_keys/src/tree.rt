@@ -1,6 +1,6 @@
 //! The tree: the place of each key.
 
-ghost use Rattle.std.specs.Prelude.{◌≡◌, ◌≤◌, ◌<◌, ◌+◌, ◌^◌, ◌++◌, ◌∷◌, [], length, get_or, vec_len, vec_capacity, Some, None, OnOk};
+ghost use Rattle.std.specs.Prelude.{◌≡◌, ◌≤◌, ◌<◌, ◌+◌, ◌^◌, ◌++◌, ◌∷◌, [], length, get_or, vec_len, vec_capacity, Some, None, is_some, if◌then◌else◌, IfOk, IfErr, OnOk, OnErr};
 ghost use Rattle.bd_keys.specs.{Keys.{place_in}, Walk.{blank, leaf, keys, next, end_of}, Tree.{IsTree}};
 
 use crate::key::WordKey;
@@ -53,24 +53,44 @@ fn index_of(nodes: &[Node], k: WordKey) -> Option<usize>
     if nodes[at].key == k { Some(at) } else { None }
 }
 
-// Makes the way to the coming node of a new key, and tells its bit.
-fn hang(nodes: &mut Vec<Node>, k: WordKey) -> u8
+// Makes the way to the coming node of a new key from the one that it comes under, and tells its bit.
+fn hang(nodes: &mut Vec<Node>, at: usize, k: WordKey) -> u8
     requires tree { IsTree nodes.old.items }
     requires room { length nodes.old.items < 2 ^ 32 }
     requires new { place_in (keys nodes.old.items) k ≡ None }
+    requires end { at ≡ end_of nodes.old.items k }
+    requires within { at < length nodes.old.items }
     ensures tree { IsTree (nodes.new.items ++ leaf k result ∷ []) }
     ensures keys { keys nodes.new.items ≡ keys nodes.old.items }
     ensures len { vec_len nodes.new ≡ vec_len nodes.old }
     ensures capacity { vec_capacity nodes.new ≡ vec_capacity nodes.old }
 {
-    if nodes.is_empty() {
-        return 0;
-    }
     let child = nodes.len() as u32;
-    let at = end(nodes, k);
     let parent = &mut nodes[at];
     parent.link(k, child);
     parent.bit + 3
+}
+
+// Finds the place of a key, or makes the way to its coming node, of which it then tells the bit.
+fn find_or_hang(nodes: &mut Vec<Node>, k: WordKey) -> Result<usize, u8>
+    requires tree { IsTree nodes.old.items }
+    requires room { length nodes.old.items < 2 ^ 32 }
+    ensures found { IfOk result (λ at. place_in (keys nodes.old.items) k ≡ Some at) }
+    ensures kept { OnOk result (nodes.new ≡ nodes.old) }
+    ensures new { OnErr result (place_in (keys nodes.old.items) k ≡ None) }
+    ensures tree { IfErr result (λ bit. IsTree (nodes.new.items ++ leaf k bit ∷ [])) }
+    ensures keys { keys nodes.new.items ≡ keys nodes.old.items }
+    ensures len { vec_len nodes.new ≡ vec_len nodes.old }
+    ensures capacity { vec_capacity nodes.new ≡ vec_capacity nodes.old }
+{
+    if nodes.is_empty() {
+        return Err(0);
+    }
+    let at = end(nodes, k);
+    if nodes[at].key == k {
+        return Ok(at);
+    }
+    Err(hang(nodes, at, k))
 }
 
 /// Keys, each at its place: a tree by their bits, three at each node, whose nodes stay.
@@ -125,14 +145,20 @@ impl Tree {
         self.nodes[at].key
     }
 
-    /// A new key comes to the end.
-    pub(crate) fn push(&mut self, k: WordKey)
-        requires room { 1 ≤ tree_room self.old }
-        requires new { place_in (keys self.old.nodes.items) k ≡ None }
-        ensures keys { keys self.new.nodes.items ≡ keys self.old.nodes.items ++ k ∷ [] }
-        ensures uses { tree_room self.old ≤ tree_room self.new + 1 }
+    /// Finds the place of a key, by one walk. Where it has none it comes to the end.
+    pub(crate) fn put(&mut self, k: WordKey) -> Option<usize>
+        requires { 1 ≤ tree_room self.old }
+        ensures found { result ≡ place_in (keys self.old.nodes.items) k }
+        ensures keys { keys self.new.nodes.items
+            ≡ (if is_some result then keys self.old.nodes.items else keys self.old.nodes.items ++ k ∷ []) }
+        ensures uses { tree_room self.old ≤ tree_room self.new + (if is_some result then 0 else 1) }
     {
-        let bit = hang(&mut self.nodes, k);
-        self.nodes.push_reserved(Node::new(k, bit));
+        match find_or_hang(&mut self.nodes, k) {
+            Ok(at) => Some(at),
+            Err(bit) => {
+                self.nodes.push_reserved(Node::new(k, bit));
+                None
+            }
+        }
     }
 }

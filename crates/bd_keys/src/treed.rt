@@ -1,7 +1,7 @@
 //! Values in a tree of keys.
 
 ghost use Rattle.std.specs.Prelude.{◌≡◌, ◌+◌, ◌*◌, ◌≤◌, ◌<◌, if◌then◌else◌, Some, None, OnOk, OnErr, IfOk, IfSome, is_some, count_by, length};
-ghost use Rattle.std.specs.Option.{option_map};
+ghost use Rattle.std.specs.Option.{option_map, option_or};
 
 use crate::key::WordKey;
 use crate::room::room_anew;
@@ -142,10 +142,39 @@ impl<V: Copy> TreeMap<V> {
         ensures room { map_room self.old ≤ map_room self.new + 1 }
         ensures keys { tree_count self.new ≤ tree_count self.old + 1 }
     {
-        match self.index_of(k) {
+        match self.tree.put(k) {
             Some(at) => self.set_at(at, Some(v)),
             None => {
-                self.tree.push(k);
+                self.values.push_reserved(Some(v));
+                self.live += 1;
+            }
+        }
+    }
+
+    // Puts a value at a key's place, if it has none there.
+    fn fill_at(&mut self, at: usize, v: V)
+        requires { at < length self.old.values.items }
+        ensures put { (k l : WordKey) → place_of self.old k ≡ Some at
+            → tree_look self.new l ≡ (if same_word k l then option_or (tree_look self.old k) (Some v) else tree_look self.old l) }
+        ensures room { map_room self.new ≡ map_room self.old }
+        ensures keys { tree_count self.new ≡ tree_count self.old }
+    {
+        if self.value(at).is_none() {
+            self.set_at(at, Some(v));
+        }
+    }
+
+    /// Puts a value at a key that has none. A new key takes room.
+    pub(crate) fn fill(&mut self, k: WordKey, v: V)
+        requires { 1 ≤ map_room self.old }
+        ensures put { (l : WordKey) → tree_look self.new l
+            ≡ (if same_word k l then option_or (tree_look self.old k) (Some v) else tree_look self.old l) }
+        ensures room { map_room self.old ≤ map_room self.new + 1 }
+        ensures keys { tree_count self.new ≤ tree_count self.old + 1 }
+    {
+        match self.tree.put(k) {
+            Some(at) => self.fill_at(at, v),
+            None => {
                 self.values.push_reserved(Some(v));
                 self.live += 1;
             }
