@@ -31,7 +31,8 @@ use Rattle.bd_laws.proofs.Tests.{same_eq, eq_same}
 use Rattle.bd_laws.proofs.Earlier.{never_earlier}
 use Rattle.bd_laws.proofs.Follow.{filter_same, find_kept}
 use Rattle.bd_laws.proofs.Freeing.{any_append}
-use Rattle.bd_step.specs.Following.{notice_stays, shed_of, told_at, told_of, followed_at}
+use Rattle.bd_objects.specs.Telling.{owner_due}
+use Rattle.bd_step.specs.Following.{notice_stays, shed_of, told_at, told_of, followed_at, IsNobodyDue}
 use Rattle.bd_step.proofs.Following.{keeps_all, keeps_none, twice, either_or, due_as_notice, unlooked_stays}
 
 -- ---- one object more
@@ -103,7 +104,7 @@ module _ (b c : ObjectTest) (s : Space) where
   stays_if false n h e = absurd (cc)
 
   -- those that stay for the first test aren't lost by the second
-  found_still : (o : Identity) → b o ≡ true → object_in both_gone o ≡ object_in first o
+  pub found_still : (o : Identity) → b o ≡ true → object_in both_gone o ≡ object_in first o
   found_still o e = find_kept (λ (x : Object). same x.id o) (λ (x : Object). not (c x.id) || stays_in s.processes s.references x) first
       (λ x l is.
       let stays = stays_if (b x.id) _ (in_filter (λ (x : Object). not (b x.id) || stays_in s.processes s.references x) x s.objects l).1 (ap b (same_eq x.id o is) ∙ e) in
@@ -125,6 +126,24 @@ module _ (b c : ObjectTest) (s : Space) where
 pub shed_next : (os : List Identity) (k : ℕ) (d : Identity) (s : Space) → k < length os
     → shed_of (at_object (get_or os k d)) (shed_of (is_among (take k os)) s) ≡ shed_of (is_among (take (k + 1) os)) s
 shed_next os k d s lt = shed_then (is_among (take k os)) (at_object (get_or os k d)) s ∙ ap (λ b. shed_of b s) (sym (among_next os k d lt))
+
+-- of one more than those of whom nobody is to be told
+pub nobody_next : (os : List Identity) (k : ℕ) (d : Identity) (s : Space) → k < length os → IsNobodyDue (shed_of (is_among (take k os)) s) (take k os)
+    → owner_due s (object_in (shed_of (at_object (get_or os k d)) (shed_of (is_among (take k os)) s)).objects (get_or os k d)) ≡ None
+    → IsNobodyDue (shed_of (is_among (take (k + 1) os)) s) (take (k + 1) os)
+unfolding shed_of objects_go_of
+nobody_next os k d s lt before one o e =
+    subst (λ (y : Space). owner_due s (object_in y.objects o) ≡ None) (shed_next os k d s lt)
+    (at (is_among (take k os) o) refl (sym (ap (λ (t : ObjectTest). t o) (among_next os k d lt)) ∙ e))
+  where
+    last : Identity
+    last = get_or os k d
+
+    at : (b : Bool) → is_among (take k os) o ≡ b → (b || at_object last o) ≡ true
+        → owner_due s (object_in (shed_of (at_object last) (shed_of (is_among (take k os)) s)).objects o) ≡ None
+    at true f g = ap (owner_due s) (found_still (is_among (take k os)) (at_object last) s o f) ∙ before o f
+    at false f g =
+        subst (λ i. owner_due s (object_in (shed_of (at_object last) (shed_of (is_among (take k os)) s)).objects i) ≡ None) (sym (same_eq o last g)) one
 
 pub shed_none : (s : Space) → shed_of (is_among []) s ≡ s
 unfolding shed_of objects_go_of
@@ -315,3 +334,15 @@ told_nobody s todo o e = at (object_in s.objects o) (owner_wanted (object_in s.o
         → todo ≡ elim f as (λ (f : Option Object). List Work) [ None ↦ todo | Some x ↦ with_notice s.steps s.processes s.references (OfProcess x.owner) todo x ]
     at None k = refl
     at (Some x) k = rw k refl
+
+-- where nobody is to be told, nothing is made
+told_none : (os : List Identity) (s : Space) (todo : List Work) → IsNobodyDue s os → fold (told_at s) todo os ≡ todo
+told_none [] s todo h = refl
+told_none (o ∷ os) s todo h =
+    let here : is_among (o ∷ os) o ≡ true = rw (eq_same o o refl) refl in
+    ap (λ (ws : List Work). fold (told_at s) ws os) (sym (told_nobody s todo o (h o here)))
+    ∙ told_none os s todo (λ i e. h i (ap (λ b. same i o || b) e ∙ or-true (same i o)))
+
+pub nobody_told : (os : List Identity) (s : Space) → IsNobodyDue s os → s ≡ told_of os s
+unfolding told_of
+nobody_told os s h = ap (λ (ws : List Work). let z : Space = record s { todo = ws } in z) (sym (told_none os s s.todo h))

@@ -7,6 +7,7 @@ use Rattle.bd_space.specs.Notices.{wants_notice, with_notice}
 use Rattle.bd_ways.specs.Local.{NameTest, ObjectTest, names_go_of, objects_go_of, deaths_go_of, work_goes_of, at_object, is_among}
 use Rattle.bd_laws.specs.Lists.{Pairs}
 use Rattle.bd_laws.specs.Objects.{Earlier, NotLater}
+use Rattle.bd_objects.specs.Telling.{owner_due}
 use Rattle.bd_step.specs.declared.tables.Tables.{Tables}
 use Rattle.bd_step.specs.Stands.{Within}
 
@@ -42,6 +43,10 @@ told_of os s = record s { todo = fold (told_at s) s.todo os }
 -- one object is shed, and then told of if it stays
 abbrev pub followed_at : Identity → Space → Space
 followed_at o s = told_of (o ∷ []) (shed_of (at_object o) s)
+
+-- no owner is to be told of one of these
+abbrev pub IsNobodyDue : Space → List Identity → Type 0
+IsNobodyDue s os = (o : Identity) → is_among os o ≡ true → owner_due s (object_in s.objects o) ≡ None
 
 -- a change within a step makes what f makes of each space whose objects stand in the order in which they were made
 abbrev pub MakesOfOrdered : Tables → Tables → (Space → Space) → Type 0

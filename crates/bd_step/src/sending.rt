@@ -1,6 +1,6 @@
 //! What a parcel sends: its objects, each known to the sender or made by the sending.
 
-ghost use Rattle.std.specs.{Prelude.{◌≡◌, ◌+◌, ◌%◌, ◌++◌, ◌∷◌, [], All, IfOk, OnOk, length}, Option.{option_to_list}};
+ghost use Rattle.std.specs.{Prelude.{◌≡◌, ◌≤◌, ◌+◌, ◌%◌, ◌++◌, ◌∷◌, [], All, IfOk, OnOk, length}, Option.{option_to_list}};
 ghost use Rattle.bd_parcel.specs.{Parcels.{offsets_in, fault_in}, Reading.{objects_at}};
 ghost use Rattle.bd_space.specs.Parcels as parcels;
 ghost use Rattle.bd_objects.specs.Made.{made_items};
@@ -62,20 +62,22 @@ fn has_sizes(sent: &TransactionData, parcel: &Parcel) -> bool
     parcel.bytes.len() as u64 == sent.data_size && parcel.offsets.len() as u64 == sent.offsets_size
 }
 
-// One object more.
+// One object more, of so many that may come.
 fn add(
     made: &mut Made,
     items: &mut Vec<Item>,
+    left: usize,
     at: usize,
     flat: FlatObject,
     resolved: Resolved,
 ) -> Result<(), AllocError>
+    requires { 1 ≤ left }
     ensures made { OnOk result (made_items made.new ≡ made_items made.old ++ option_to_list resolved.new) }
     ensures items { OnOk result
         (items.new.items ≡ items.old.items ++ record { at = at; flat = flat; object = resolved.object } ∷ []) }
 {
     if let Some(o) = resolved.new {
-        made.reserve(1)?;
+        made.reserve(left)?;
         made.push(o);
     }
     items.push(Item {
@@ -108,12 +110,15 @@ impl Tables {
             return Err(AllocError);
         }
         let mut made = Made::new(self.alloc);
-        let mut items = Vec::new(self.alloc);
+        let mut items = Vec::with_capacity(self.alloc, objects.len())?;
         for k in 0..objects.len() {
             let x = objects.get(k);
             match self.objects.resolve(self.steps, p, &made, &x.object) {
                 Err(cause) => return Ok(Err(cause)),
-                Ok(resolved) => add(&mut made, &mut items, x.start, x.object, resolved)?,
+                Ok(resolved) => {
+                    let left = objects.len() - k;
+                    add(&mut made, &mut items, left, x.start, x.object, resolved)?;
+                }
             }
         }
         Ok(Ok(Sending {

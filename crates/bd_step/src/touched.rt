@@ -1,13 +1,13 @@
 //! What follows from a change at some names and objects: nothing else is looked at.
 
-ghost use Rattle.std.specs.Prelude.{◌≡◌, ◌≤◌, [], ◌∷◌, true, length};
+ghost use Rattle.std.specs.Prelude.{◌≡◌, ◌≤◌, [], ◌∷◌, ◌||◌, true, false, is_some, length};
 ghost use Rattle.bd_space.specs.{Space.{Space}, References.{object_in}};
 ghost use Rattle.bd_ways.specs.Local.{follow_of, at_name, at_object, no_name, is_among, names_among};
 ghost use Rattle.bd_laws.specs.{Lists.{Pairs}, Objects.{NotLater, is_earlier}};
 ghost use Rattle.bd_objects.specs.Telling.{owner_due};
 ghost use Rattle.bd_calls.specs.Room.{work_room};
 ghost use Rattle.bd_step.specs.Stands.{Within, Uses, MakesWithin, TellsWithin, UsesNothing, KeepsTold};
-ghost use Rattle.bd_step.specs.Following.{deaths_followed, deaths_withdrawn, followed_at, names_followed, shed_of, told_of, AreTouched, MakesOfOrdered};
+ghost use Rattle.bd_step.specs.Following.{deaths_followed, deaths_withdrawn, followed_at, names_followed, shed_of, told_of, AreTouched, IsNobodyDue, MakesOfOrdered};
 
 use crate::tables::Tables;
 use bd_space::{Identity, TodoList};
@@ -28,6 +28,13 @@ fn stand_in_order(objects: &[Identity]) -> bool
     objects.is_sorted_by(|x, y| !is_earlier(y, x))
 }
 
+// Whether an owner was to be told before, or this one is.
+fn is_due(before: bool, owner: Option<u64>) -> bool
+    ensures { result ≡ (before || is_some owner) }
+{
+    before || owner.is_some()
+}
+
 /// The objects in the order in which they were made.
 // Put into its callers: mostly there is nothing to be sorted.
 #[inline(always)]
@@ -36,6 +43,12 @@ pub(crate) fn in_order(mut objects: Vec<Identity>) -> Vec<Identity>
     ensures len { length result.items ≡ length objects.items }
 {
     // Most steps touch one object at most, and a parcel's new objects are in order.
+    if stand_in_order(&objects) {
+        return objects;
+    }
+    // What a buffer refers to has its target last, which mostly was there before.
+    let last = objects.len().min(1);
+    objects.rotate_right(last);
     if !stand_in_order(&objects) {
         objects.sort_unstable_by_key(|o| (o.place, o.index));
     }
@@ -113,15 +126,21 @@ impl Tables {
         }
     }
 
-    // Of these objects those go that nothing keeps, and the notices that have nothing left to say.
-    fn remove_each_unkept(&mut self, touched: &[Identity])
+    // Of these objects those go that nothing keeps, and the notices that have nothing left to say. Returns whether an owner may
+    // be to be told of one.
+    fn remove_each_unkept(&mut self, touched: &[Identity]) -> bool
+        ensures nobody { result ≡ false → (s : Space) → Within self.old s
+            → IsNobodyDue (shed_of (is_among touched.now) s) touched.now }
         ensures stands { MakesWithin self.old self.new (shed_of (is_among touched.now)) }
         ensures uses { UsesNothing self.old self.new }
         ensures told { KeepsTold self.old self.new }
     {
+        let mut due = false;
         for o in touched {
-            self.remove_unkept(*o);
+            let owner = self.remove_unkept(*o);
+            due = is_due(due, owner);
         }
+        due
     }
 
     // The notices that are missing are made on their owners' lists, in this order of the objects.
@@ -159,8 +178,7 @@ impl Tables {
         // Most steps touch one object, which is then looked for once.
         if touched.len() == 1 {
             self.follow_object(touched[0]);
-        } else {
-            self.remove_each_unkept(touched);
+        } else if self.remove_each_unkept(touched) {
             self.notify_objects(touched);
         }
     }
