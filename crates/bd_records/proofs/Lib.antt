@@ -1,4 +1,5 @@
 mod Keyed
+mod Latest
 mod Naming
 mod Tallies
 mod Lists

@@ -115,9 +115,8 @@ impl Records {
         ensures settled { KeepsSettled self.old self.new }
         ensures uses { Uses self.old self.new 0 0 0 }
     {
-        if let Some(w) = self.objects.row_of(o) {
+        if let Some(w) = self.objects.remove(o) {
             self.owned.remove(&w.object);
-            self.objects.remove(o);
         }
     }
 }

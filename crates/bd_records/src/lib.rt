@@ -33,5 +33,5 @@ pub use names::Names;
 pub use numbers::NumbersFull;
 pub use objects::Objects;
 pub use owned::Owned;
-pub use records::{Hold, Records};
+pub use records::{Hold, Kept, Records};
 pub use row::{NameRow, ObjectRow};

@@ -6,6 +6,7 @@ ghost use Rattle.bd_space.specs.declared.step.Identity as declared;
 ghost use Rattle.bd_records.specs.NumberKeys.{number_at};
 ghost use Rattle.bd_records.specs.NameRows.{object_in, new_row};
 ghost use Rattle.bd_records.specs.Counting as spec;
+ghost use Rattle.bd_keys.specs.Numbers.{pair};
 
 use crate::count::Count;
 use crate::counting::name_turned;
@@ -13,6 +14,7 @@ use crate::keys::{remove_numbers, reserve_numbers};
 use crate::number_key::{ObjectKey, insert_number, number_in, remove_number};
 use crate::numbers::NumbersFull;
 use crate::row::NameRow;
+use bd_keys::tall;
 use bd_numbered::{Guesses, Numbered};
 use bd_space::{Identity, Reference};
 use std::alloc::{AllocError, Global};
@@ -42,8 +44,11 @@ pub struct Names {
     // Numbers by process and object, asked where a guess was wrong.
     pub(crate) numbers: HashMap<ObjectKey, u32>,
     pub(crate) guesses: Guesses,
+    // No object that has a name has a later identity, as a number: for what has one no name is looked for.
+    pub(crate) latest: u128,
     ghost found: { (p : ℕ) (o : declared.Identity) (n : ℕ) → object_in rows p n ≡ Some o → number_at numbers p o ≡ Some n },
     ghost leads: { (p : ℕ) (o : declared.Identity) (n : ℕ) → number_at numbers p o ≡ Some n → object_in rows p n ≡ Some o },
+    ghost not_later: { (p : ℕ) (o : declared.Identity) (n : ℕ) → number_at numbers p o ≡ Some n → pair o.place o.index ≤ latest },
     ghost small: { (p : ℕ) (o : declared.Identity) (n : ℕ) → number_at numbers p o ≡ Some n → n ≤ 4294967294 },
 }
 
@@ -62,6 +67,7 @@ impl Names {
             rows: Numbered::new(alloc),
             numbers: HashMap::new(alloc),
             guesses: Guesses::new(alloc),
+            latest: 0,
         }
     }
 
@@ -100,6 +106,9 @@ impl Names {
         let guess = self.guesses.of(key_of(p, o));
         if self.named(p, guess) == Some(o) {
             return Some(guess);
+        }
+        if tall(o.place, o.index) > self.latest {
+            return None;
         }
         self.number_among(p, o)
     }
@@ -219,6 +228,7 @@ impl Names {
         let _n = self.rows.put(p, n == 0, row);
         insert_number(&mut self.numbers, p, o, n);
         self.guesses.note(key_of(p, o), n as usize);
+        self.latest = self.latest.max(tall(o.place, o.index));
         Ok(n)
     }
 

@@ -6,6 +6,7 @@ ghost use Rattle.bd_space.specs.Words.{same};
 ghost use Rattle.bd_space.specs.declared.step.Identity as declared;
 ghost use Rattle.bd_records.specs.Slots.{id_in};
 ghost use Rattle.bd_records.specs.Counting as spec;
+ghost use Rattle.bd_keys.specs.Numbers.{pair};
 
 use crate::count::Count;
 use crate::row::ObjectRow;
@@ -13,6 +14,7 @@ use crate::slots::{
     id_at, insert_row, insert_slot, remove_of_owner_in, remove_row, remove_slot, reserve_rows,
     reserve_slots, row_in, set_row, slot_in, subtract_row, tell_row, turn_row,
 };
+use bd_keys::tall;
 use bd_numbered::Guesses;
 use bd_space::{Identity, Reference};
 use slab::Slab;
@@ -41,8 +43,11 @@ pub struct Objects {
     // Slots by identity, asked where a guess is wrong.
     pub(crate) slots: HashMap<Identity, usize>,
     pub(crate) guesses: Guesses,
+    // No object that is there has a later identity, as a number: what has one needs no look.
+    pub(crate) latest: u128,
     ghost found: { (o : declared.Identity) (k : ℕ) → id_in rows k ≡ Some o → get_by (same o) slots ≡ Some k },
     ghost leads: { (o : declared.Identity) (k : ℕ) → get_by (same o) slots ≡ Some k → id_in rows k ≡ Some o },
+    ghost not_later: { (o : declared.Identity) (k : ℕ) → get_by (same o) slots ≡ Some k → pair o.place o.index ≤ latest },
 }
 
 impl Objects {
@@ -56,6 +61,7 @@ impl Objects {
             rows: Slab::new(alloc),
             slots: HashMap::new(alloc),
             guesses: Guesses::new(alloc),
+            latest: 0,
         }
     }
 
@@ -81,6 +87,9 @@ impl Objects {
         let guess = self.guesses.of(key_of(o)) as usize;
         if id_at(&self.rows, guess) == Some(o) {
             return Some(guess);
+        }
+        if tall(o.place, o.index) > self.latest {
+            return None;
         }
         self.slot_among(o)
     }
@@ -173,6 +182,9 @@ impl Objects {
     {
         let k = insert_row(&mut self.rows, row);
         self.guesses.note(key_of(row.object.id), k);
+        self.latest = self
+            .latest
+            .max(tall(row.object.id.place, row.object.id.index));
         if let Some(before) = insert_slot(&mut self.slots, row.object.id, k) {
             remove_row(&mut self.rows, before);
         }
@@ -180,13 +192,18 @@ impl Objects {
     }
 
     /// The object's record goes, if it has one.
-    pub fn remove(&mut self, o: Identity)
+    pub fn remove(&mut self, o: Identity) -> Option<ObjectRow>
+        ensures gone { result ≡ row_at self.old o }
+        ensures id { IfSome result (λ w. w.object.id ≡ o) }
         ensures at { (x : declared.Identity) → row_at self.new x ≡ (if same o x then None else row_at self.old x) }
         ensures uses { object_room self.old ≤ object_room self.new }
     {
-        if let Some(k) = self.slot_of(o) {
-            remove_row(&mut self.rows, k);
-            remove_slot(&mut self.slots, o);
+        match self.slot_of(o) {
+            Some(k) => {
+                remove_slot(&mut self.slots, o);
+                remove_row(&mut self.rows, k)
+            }
+            None => None,
         }
     }
 }

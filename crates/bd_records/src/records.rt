@@ -1,10 +1,11 @@
 //! Objects, names and references together.
 
-ghost use Rattle.std.specs.Prelude.{ℕ, ◌≡◌, ◌==◌, ◌≤◌, ◌+◌, ◌&&◌, ◌++◌, ◌∷◌, [], true, false, not, filter, map, List, OnOk, OnErr};
+ghost use Rattle.std.specs.Prelude.{ℕ, ◌≡◌, ◌==◌, ◌≤◌, ◌+◌, ◌&&◌, ◌++◌, ◌∷◌, [], true, false, not, filter, map, option_map, List, IfSome, OnOk, OnErr};
 ghost use Rattle.std.specs.List.{list_any};
 ghost use Rattle.bd_space.specs.{Words.{same, without_first}};
 ghost use Rattle.bd_space.specs.References as refer;
-ghost use Rattle.bd_space.specs.declared.space.{Object.{Object}, Reference.{Reference}};
+ghost use Rattle.bd_space.specs.declared.space.Object as spaced;
+ghost use Rattle.bd_space.specs.declared.space.Reference.{Reference};
 
 use crate::buffers::Buffers;
 use crate::lying::Lying;
@@ -13,7 +14,7 @@ use crate::objects::Objects;
 use crate::owned::Owned;
 use crate::turning::turn;
 use bd_chains::Items;
-use bd_space::{Holder, Identity, Name, Origin, Reference};
+use bd_space::{Holder, Identity, Name, Object, Origin, Reference};
 use std::alloc::{AllocError, Global};
 
 /// A space's objects, names and references.
@@ -35,6 +36,13 @@ pub struct Records {
 pub struct Hold {
     pub is_held: bool,
     pub is_strong: bool,
+}
+
+/// An object, and how it is referred to.
+#[derive(Clone, Copy)]
+pub struct Kept {
+    pub object: Object,
+    pub hold: Hold,
 }
 
 // The objects of these references come behind what is there.
@@ -105,6 +113,26 @@ impl Records {
         }
     }
 
+    /// The object with this identity and how it is referred to, if it is still there: by one look.
+    #[inline(always)]
+    pub fn kept(&self, o: Identity) -> Option<Kept>
+        ensures object { (objects : List spaced.Object) (l : List Reference) → RecordsAre self.now objects l
+            → option_map (λ x. x.object) result ≡ refer.object_in objects o }
+        ensures held { IfSome result (λ x. Tells self.now x.hold.is_held (λ l. refer.held_in l x.object.id)) }
+        ensures strong { IfSome result (λ x. Tells self.now x.hold.is_strong (λ l. refer.strong_in l x.object.id)) }
+    {
+        match self.objects.row_of(o) {
+            Some(w) => Some(Kept {
+                object: w.object,
+                hold: Hold {
+                    is_held: !w.total.is_empty(),
+                    is_strong: w.total.strong > 0,
+                },
+            }),
+            None => None,
+        }
+    }
+
     /// Whether the process asked for the object in this strength.
     #[inline(always)]
     pub fn is_asked(&self, p: u64, o: Identity, strong: bool) -> bool
@@ -155,7 +183,7 @@ impl Records {
     /// Takes in a reference, of which there is a record for each counter (`IsHomed`).
     pub fn push(&mut self, r: Reference)
         requires { 1 ≤ reference_room self.old }
-        ensures stands { (objects : List Object) (l : List Reference) → IsHomed self.old objects r
+        ensures stands { (objects : List spaced.Object) (l : List Reference) → IsHomed self.old objects r
             → RecordsAre self.old objects l → RecordsAre self.new objects (l ++ r ∷ []) }
         ensures names { KeepsNames self.old.names self.new.names }
         ensures settled { KeepsSettled self.old self.new }
@@ -231,7 +259,7 @@ impl Records {
         ensures pushed { OnOk result (Tells self.now touched.new.items (λ l. touched.old.items ++ map (λ r. r.object) (filter
             (λ r. refer.is_of_buffer b r.holder) l))) }
         // Memory was asked for: it refers to one.
-        ensures grown { OnErr result ((objects : List Object) (l : List Reference) → RecordsAre self.now objects l
+        ensures grown { OnErr result ((objects : List spaced.Object) (l : List Reference) → RecordsAre self.now objects l
             → list_any (λ r. refer.is_of_buffer b r.holder) l ≡ true) }
     {
         push_objects(self.held.of(b), touched)
@@ -274,7 +302,7 @@ impl Records {
         ensures names { KeepsNames self.old.names self.new.names }
         ensures settled { KeepsSettled self.old self.new }
         ensures uses { Uses self.old self.new 0 0 0 }
-        ensures gone { (objects : List Object) (l : List Reference) → RecordsAre self.old objects l → list_of self.new.held b ≡ None }
+        ensures gone { (objects : List spaced.Object) (l : List Reference) → RecordsAre self.old objects l → list_of self.new.held b ≡ None }
     {
         self.remove_each(b);
         self.held.close(b);

@@ -117,11 +117,12 @@ pub(crate) fn insert_row(rows: &mut Slab<ObjectRow>, row: ObjectRow) -> usize
     rows.insert_reserved(row)
 }
 
-pub(crate) fn remove_row(rows: &mut Slab<ObjectRow>, k: usize)
+pub(crate) fn remove_row(rows: &mut Slab<ObjectRow>, k: usize) -> Option<ObjectRow>
+    ensures gone { result ≡ get rows.old k }
     ensures at { (j : ℕ) → get rows.new j ≡ (if k == j then None else get rows.old j) }
     ensures room { row_room rows.old ≤ row_room rows.new }
 {
-    let _row = rows.try_remove(k);
+    rows.try_remove(k)
 }
 
 // Called apart, so that who guesses right saves nothing for it.

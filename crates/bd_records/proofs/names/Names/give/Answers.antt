@@ -6,6 +6,7 @@ use Rattle.bd_records.specs.NumberKeys.{number_at}
 use Rattle.bd_records.specs.{NameRows.{object_of, new_row}, Slots.{on_slot}}
 use Rattle.bd_records.proofs.Naming.{by_process, own_process, put_is, same_slots}
 use Rattle.bd_records.proofs.Keyed.{put_found, put_leads, put_at, AreFound, Lead}
+use Rattle.bd_records.proofs.Latest.{noted}
 use Rattle.bd_records.proofs.names.Names.give.Goals as goal
 
 pub invariant_of-self-clause-found : goal.invariant_of-self-clause-found
@@ -54,3 +55,9 @@ invariant_of-self-clause-small c = λ q x m e. at q x m ((c.args.p == q) && same
     at : (q : ℕ) (x : Identity) (m : ℕ) (b : Bool) → cond b (Some c.in-Some.n) (number_at c.args.self.now.numbers q x) ≡ Some m → m ≤ 4294967294
     at q x m true e = (let h = c.in-Some.ensures.within in let k : c.in-Some.n ≡ m = cc in omega (arith, h, k))
     at q x m false e = c.args.self.now.small q x m e
+
+pub invariant_of-self-clause-not_later : goal.invariant_of-self-clause-not_later
+invariant_of-self-clause-not_later c = λ q.
+    let t = c.args.self.now in
+    noted (number_at t.numbers q) (number_at c.insert_number.new.numbers q) c.args.o t.latest (t.not_later q) (c.args.p == q) c.in-Some.n c.max-self.result
+    (omega (arith, c.max-self.ensures, c.tall.ensures)) (omega (arith, c.max-self.ensures)) (c.insert_number.ensures.at q)

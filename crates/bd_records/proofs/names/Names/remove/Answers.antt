@@ -6,6 +6,7 @@ use Rattle.bd_records.specs.NumberKeys.{number_at}
 use Rattle.bd_records.specs.{NameRows.{object_of}, Slots.{on_slot}}
 use Rattle.bd_records.proofs.Naming.{by_process, own_process}
 use Rattle.bd_records.proofs.Keyed.{gone_found, gone_leads, gone_at, AreFound, Lead}
+use Rattle.bd_records.proofs.Latest.{gone}
 use Rattle.bd_records.proofs.names.Names.remove.Goals as goal
 
 pub invariant_of-self-clause-found : goal.invariant_of-self-clause-found
@@ -51,3 +52,8 @@ invariant_of-self-clause-small c = λ q x m e. at q x m ((c.args.p == q) && same
     at : (q : ℕ) (x : Identity) (m : ℕ) (b : Bool) → cond b None (number_at c.args.self.now.numbers q x) ≡ Some m → m ≤ 4294967294
     at q x m true e = absurd cc
     at q x m false e = c.args.self.now.small q x m e
+
+pub invariant_of-self-clause-not_later : goal.invariant_of-self-clause-not_later
+invariant_of-self-clause-not_later c = λ q.
+    let t = c.args.self.now in
+    gone (number_at t.numbers q) (number_at c.remove_number.new.numbers q) c.args.o t.latest (t.not_later q) (c.args.p == q) (c.remove_number.ensures.at q)

@@ -1,5 +1,7 @@
+use Rattle.std.proofs.Common.{◌==◌}
 use Rattle.bd_numbered.specs.Numbered.{value_at}
 use Rattle.bd_records.specs.NumberKeys.{number_at}
+use Rattle.bd_records.proofs.Latest.{all_gone}
 use Rattle.bd_records.proofs.Stepping.{ended_numbers, ended_named, ended_names, ended_found, ended_leads, ended_small}
 use Rattle.bd_records.proofs.names.Names.remove_process.Goals as goal
 
@@ -32,3 +34,9 @@ pub returns-clause-names : goal.returns-clause-names
 returns-clause-names c =
     let t = c.args.self.now in
     ended_names c.args.p (value_at t.rows) (value_at c.close.new.self) (number_at t.numbers) (number_at c.remove_numbers.new.numbers) t.leads t.small c.remove_numbers.ensures.gone c.remove_numbers.ensures.still c.remove_numbers.ensures.rest c.close.ensures.at
+
+pub invariant_of-self-clause-not_later : goal.invariant_of-self-clause-not_later
+invariant_of-self-clause-not_later c = λ q.
+    let t = c.args.self.now in
+    all_gone (number_at t.numbers q) (number_at c.remove_numbers.new.numbers q) t.latest (t.not_later q) (c.args.p == q)
+    (ended_numbers c.args.p (value_at t.rows) (value_at c.close.new.self) (number_at t.numbers) (number_at c.remove_numbers.new.numbers) t.leads t.small c.remove_numbers.ensures.gone c.remove_numbers.ensures.still c.remove_numbers.ensures.rest c.close.ensures.at q)

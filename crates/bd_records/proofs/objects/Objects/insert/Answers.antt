@@ -1,10 +1,11 @@
-use Rattle.std.proofs.Common.{◌≡◌, ◌==◌, false, None, sym, refl, ◌∙◌, arith}
+use Rattle.std.proofs.Common.{◌≡◌, ◌==◌, true, false, None, sym, refl, ◌∙◌, arith}
 use Rattle.std.specs.HashMap.{get_by}
 use Rattle.slab.specs.Slab.{get}
 use Rattle.bd_ways.specs.Words.{Identity, same}
 use Rattle.bd_records.specs.declared.row.ObjectRow.{ObjectRow}
 use Rattle.bd_records.specs.Objects.{slot_at}
 use Rattle.bd_records.proofs.Keyed.{put_found, put_leads, put_at}
+use Rattle.bd_records.proofs.Latest.{noted}
 use Rattle.bd_records.proofs.objects.Objects.insert.Goals as goal
 
 abbrev id : ObjectRow → Identity
@@ -57,3 +58,15 @@ returns-in_default-clause-at c =
     let is : slot_at t c.args.row.object.id ≡ None = grind (arith, c.insert_slot.ensures.before, c.in_default.not-Some) in
     put_at id (get t.rows) (get c.insert_row-k.new.rows) (slot_at t) (λ x. get_by (same x) c.insert_slot.new.slots) c.args.row.object.id c.insert_row-k.result t.found t.leads c.args.row refl
     (λ j. false) (λ j e. grind (arith, is)) (λ j e. grind (arith, is)) c.insert_row-k.ensures.fresh c.insert_row-k.ensures.at c.insert_slot.ensures.at
+
+pub invariant_of-self-clause-not_later : goal.invariant_of-self-clause-not_later
+invariant_of-self-clause-not_later c =
+    let t = c.args.self.now in
+    noted (slot_at t) (λ x. get_by (same x) c.insert_slot.new.slots) c.args.row.object.id t.latest t.not_later true c.insert_row-k.result c.max-self.result
+    (omega (arith, c.max-self.ensures, c.tall.ensures)) (omega (arith, c.max-self.ensures)) c.insert_slot.ensures.at
+
+pub invariant_of-self-in_default-clause-not_later : goal.invariant_of-self-in_default-clause-not_later
+invariant_of-self-in_default-clause-not_later c =
+    let t = c.args.self.now in
+    noted (slot_at t) (λ x. get_by (same x) c.insert_slot.new.slots) c.args.row.object.id t.latest t.not_later true c.insert_row-k.result c.max-self.result
+    (omega (arith, c.max-self.ensures, c.tall.ensures)) (omega (arith, c.max-self.ensures)) c.insert_slot.ensures.at

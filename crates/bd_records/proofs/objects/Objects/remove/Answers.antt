@@ -1,10 +1,12 @@
-use Rattle.std.proofs.Common.{sym, ◌∙◌}
+use Rattle.std.proofs.Common.{◌≡◌, true, sym, subst, IfSome, ◌∙◌}
 use Rattle.std.specs.HashMap.{get_by}
 use Rattle.slab.specs.Slab.{get}
 use Rattle.bd_ways.specs.Words.{Identity, same}
 use Rattle.bd_records.specs.declared.row.ObjectRow.{ObjectRow}
 use Rattle.bd_records.specs.Objects.{slot_at}
 use Rattle.bd_records.proofs.Keyed.{gone_found, gone_leads, gone_at}
+use Rattle.bd_records.proofs.Latest.{gone}
+use Rattle.bd_records.proofs.Naming.{shown_is}
 use Rattle.bd_records.proofs.objects.Objects.remove.Goals as goal
 
 abbrev id : ObjectRow → Identity
@@ -24,3 +26,14 @@ pub returns-in-Some-clause-at : goal.returns-in-Some-clause-at
 returns-in-Some-clause-at c =
     let t = c.args.self.now in
     gone_at id (get t.rows) (get c.remove_row.new.rows) (slot_at t) (λ x. get_by (same x) c.remove_slot.new.slots) c.args.o c.in-Some.k t.found t.leads (sym c.slot_of.ensures ∙ c.in-Some.is) c.remove_row.ensures.at c.remove_slot.ensures.at
+
+pub invariant_of-self-clause-not_later : goal.invariant_of-self-clause-not_later
+invariant_of-self-clause-not_later c =
+    let t = c.args.self.now in
+    gone (slot_at t) (λ x. get_by (same x) c.remove_slot.new.slots) c.args.o t.latest t.not_later true c.remove_slot.ensures.at
+
+pub returns-in-Some-clause-id : goal.returns-in-Some-clause-id
+returns-in-Some-clause-id c =
+    let t = c.args.self.now in
+    subst (λ v. IfSome v (λ w. w.object.id ≡ c.args.o)) (sym c.remove_row.ensures.gone)
+    (shown_is id (get t.rows c.in-Some.k) c.args.o (t.leads c.args.o c.in-Some.k (sym c.slot_of.ensures ∙ c.in-Some.is)))

@@ -4,7 +4,7 @@ use Rattle.bd_ways.specs.Words.{Object, same}
 use Rattle.bd_space.specs.References.{object_in}
 use Rattle.bd_records.specs.ObjectKeys.{id_key}
 use Rattle.bd_records.proofs.Distinct.{away_none}
-use Rattle.bd_records.specs.{Objects.{row_at}, Names.{name_at}, Owned.{OwnedAre}, Records.{RecordsAre}}
+use Rattle.bd_records.specs.{Objects.{row_at}, Names.{name_at}, Owned.{OwnedAre}}
 use Rattle.bd_records.proofs.Coming.{object_of, went_objects, went_owners, went_counts}
 use Rattle.bd_records.proofs.records.Records.remove_object.Goals as goal
 
@@ -14,18 +14,26 @@ returns-in-Some-clause-stands c = λ objects l unheld h.
     let o = c.args.o in
     let x = c.in-Some.w.object in
     let is : x.id ≡ o = c.in-Some.ensures.id in
-    let has : object_in objects o ≡ Some x = h.objects_are o ∙ ap (option_map object_of) (sym c.row_of.ensures.is ∙ c.in-Some.is) in
+    let has : object_in objects o ≡ Some x = h.objects_are o ∙ ap (option_map object_of) (sym c.remove.ensures.gone ∙ c.in-Some.is) in
     record {
-      objects_are = went_objects (row_at t.objects) (row_at c.remove-in-Some.new.self) (name_at t.names) objects l h.counts h.objects_are h.owners o unheld c.remove-in-Some.ensures.at;
-      owners = went_owners (row_at t.objects) (row_at c.remove-in-Some.new.self) (name_at t.names) objects l h.counts h.objects_are h.owners o unheld c.remove-in-Some.ensures.at;
-      own = subst (λ y. OwnedAre c.remove.new.self (filter (λ (z : Object). not (same z.id y)) objects)) is (c.remove.ensures.stands objects h.own (subst (λ y. object_in objects y ≡ Some x) (sym is) has));
-      counts = went_counts (row_at t.objects) (row_at c.remove-in-Some.new.self) (name_at t.names) objects l h.counts h.objects_are h.owners o unheld c.remove-in-Some.ensures.at;
+      objects_are = went_objects (row_at t.objects) (row_at c.remove.new.self) (name_at t.names) objects l h.counts h.objects_are h.owners o unheld c.remove.ensures.at;
+      owners = went_owners (row_at t.objects) (row_at c.remove.new.self) (name_at t.names) objects l h.counts h.objects_are h.owners o unheld c.remove.ensures.at;
+      own = subst (λ y. OwnedAre c.remove-in-Some.new.self (filter (λ (z : Object). not (same z.id y)) objects)) is (c.remove-in-Some.ensures.stands objects h.own (subst (λ y. object_in objects y ≡ Some x) (sym is) has));
+      counts = went_counts (row_at t.objects) (row_at c.remove.new.self) (name_at t.names) objects l h.counts h.objects_are h.owners o unheld c.remove.ensures.at;
       held = h.held;
       few = h.few;
     }
 
 pub returns-in_default-clause-stands : goal.returns-in_default-clause-stands
 returns-in_default-clause-stands c = λ objects l unheld h.
+    let t = c.args.self.now in
     let o = c.args.o in
-    let none : object_in objects o ≡ None = h.objects_are o ∙ ap (option_map object_of) (sym c.row_of.ensures.is ∙ c.in_default.is) in
-    subst (λ os. RecordsAre c.args.self.now os l) (sym (away_none id_key same o objects none)) h
+    let none : object_in objects o ≡ None = h.objects_are o ∙ ap (option_map object_of) (sym c.remove.ensures.gone ∙ c.in_default.is) in
+    record {
+      objects_are = went_objects (row_at t.objects) (row_at c.remove.new.self) (name_at t.names) objects l h.counts h.objects_are h.owners o unheld c.remove.ensures.at;
+      owners = went_owners (row_at t.objects) (row_at c.remove.new.self) (name_at t.names) objects l h.counts h.objects_are h.owners o unheld c.remove.ensures.at;
+      own = subst (OwnedAre t.owned) (sym (away_none id_key same o objects none)) h.own;
+      counts = went_counts (row_at t.objects) (row_at c.remove.new.self) (name_at t.names) objects l h.counts h.objects_are h.owners o unheld c.remove.ensures.at;
+      held = h.held;
+      few = h.few;
+    }
