@@ -9,13 +9,13 @@ ghost use Rattle.bd_space.specs.Returns as returns;
 ghost use Rattle.bd_space.specs.{Space.{Space}, declared.space.Object.{Object}};
 ghost use Rattle.bd_ways.specs.Tables.{IsAt};
 ghost use Rattle.bd_space.specs.{declared.space.Reference.{Reference}, declared.space.Holder.TheVariants.{Handshake}};
-ghost use Rattle.bd_records.specs.{Records.{RecordsAre, Tells as TellsOf, reference_room as room_in}, Since.{KeepsSettled}};
+ghost use Rattle.bd_records.specs.{Records.{RecordsAre, reference_room as room_in}, Since.{KeepsSettled}};
 ghost use Rattle.bd_records.specs.Room as rooms_of;
 ghost use Rattle.bd_objects.specs.{Reading.{owed, HoldsAlike}, New.{IsHere}};
 
 use crate::table::ObjectTable;
-use bd_records::{Hold, Records};
-use bd_space::{Holder, Identity, Object, Origin, Reference, Work, WorkKind};
+use bd_records::{Hold, Kept, Records};
+use bd_space::{Holder, Identity, Origin, Reference, Work, WorkKind};
 use bd_uapi::Return;
 
 /// The return, where it is to be read.
@@ -25,11 +25,13 @@ fn return_when(test: bool, r: Return) -> Option<Return>
     if test { Some(r) } else { None }
 }
 
-/// What the owner of this object is told, by the references as they stand.
-fn notice_returns_of(records: &Records, x: &Object) -> [Option<Return>; 4]
-    ensures { TellsOf records.now (flat_map option_to_list result) (λ l. returns.notice_returns l x.now) }
+/// What the owner of this object is told, as it is held.
+fn notice_returns_of(kept: Kept) -> [Option<Return>; 4]
+    ensures { (l : List Reference) → kept.hold.is_held ≡ refer.held_in l kept.object.id → kept.hold.is_strong ≡ refer.strong_in l kept.object.id
+        → flat_map option_to_list result ≡ returns.notice_returns l kept.object }
 {
-    let Hold { is_held, is_strong } = records.hold(x.id);
+    let Hold { is_held, is_strong } = kept.hold;
+    let x = kept.object;
     [
         return_when(is_held && !x.told_weak, Return::Increfs(x.ptr, x.cookie)),
         return_when(
@@ -88,14 +90,11 @@ fn acknowledgements(records: &Records, o: Identity) -> (bool, bool)
     ensures here { (objects : List Object) (l : List Reference) → RecordsAre records.now objects l
         → (result.0 || result.1) ≡ true → IsHere o objects }
 {
-    match records.object(o) {
-        Some(x) => {
-            let hold = records.hold(x.id);
-            (
-                hold.is_held && !x.told_weak,
-                hold.is_strong && !x.told_strong,
-            )
-        }
+    match records.kept(o) {
+        Some(Kept { object, hold }) => (
+            hold.is_held && !object.told_weak,
+            hold.is_strong && !object.told_strong,
+        ),
         None => (false, false),
     }
 }
@@ -187,8 +186,8 @@ impl ObjectTable {
         ensures { Tells (StandsFor self.now) (flat_map option_to_list result)
             (λ s. returns.returns_of_object s.references (refer.object_in s.objects o)) }
     {
-        match self.records.object(o) {
-            Some(x) => notice_returns_of(&self.records, &x),
+        match self.records.kept(o) {
+            Some(kept) => notice_returns_of(kept),
             None => [None, None, None, None],
         }
     }

@@ -37,14 +37,13 @@ impl ObjectTable {
             (λ s. owner_due s (object_in (local.objects_go_of (local.at_object o) s).objects o)) }
         ensures uses { UsesNothing self.old self.new }
     {
-        let x = self.records.object(o)?;
-        let lives = processes.lives(x.owner);
-        let hold = self.records.hold(x.id);
-        if !stays(hold, lives, &x) {
+        let kept = self.records.kept(o)?;
+        let lives = processes.lives(kept.object.owner);
+        if !stays(kept.hold, lives, &kept.object) {
             self.records.remove_object(o);
             return None;
         }
-        owner_to_tell(hold, lives, &x)
+        owner_to_tell(kept.hold, lives, &kept.object)
     }
 
     /// Whether a notification is to go with the process's name of the object, which is gone.
@@ -113,7 +112,7 @@ impl ObjectTable {
         ensures { TellsWhere (StandsFor self.now) (HasProcesses processes.now) result
             (λ s. owner_due s (object_in s.objects o)) }
     {
-        let x = self.records.object(o)?;
-        owner_to_tell(self.records.hold(x.id), processes.lives(x.owner), &x)
+        let kept = self.records.kept(o)?;
+        owner_to_tell(kept.hold, processes.lives(kept.object.owner), &kept.object)
     }
 }
