@@ -53,10 +53,7 @@ fn note(later: &mut WordMap<Object>, x: Object)
     ensures found { (k : WordKey) → look later.new k ≡ option_or (look later.old k) (after.own_at (x ∷ []) k) }
     ensures room { word_room later.old ≤ word_room later.new + 1 }
 {
-    let key = key_of(&x);
-    if later.get(key).is_none() {
-        later.insert(key, x);
-    }
+    later.fill(key_of(&x), x);
 }
 
 /// How many of those that are yet to come will come after the first few.
