@@ -3,7 +3,7 @@ use Rattle.std.proofs.Common.{◌≡◌, ◌≢◌, ℕ, zero, suc, ◌+◌, ◌
 use Rattle.std.specs.Prelude.{◌==◌, not, find, filter, Some, None, Option, option_map}
 use Rattle.std.specs.List.{cons_option}
 use Rattle.std.specs.Option.{is_some, option_or, option_to_list}
-use Rattle.std.proofs.lemmas.Bool.{eqb-true, eqb-false, cases_Bool}
+use Rattle.std.proofs.lemmas.Bool.{eqb-true, eqb-false, false≢true, cases_Bool}
 use Rattle.std.proofs.lemmas.List.{append-nil}
 use Rattle.std.proofs.lemmas.List.Elements.{All-filter}
 use Rattle.std.proofs.lemmas.List.Folds.{find-append}
@@ -17,6 +17,7 @@ use Rattle.bd_space.specs.Windows.{buffers_of}
 use Rattle.bd_space.specs.Freeing.{is_made_at}
 use Rattle.bd_space.specs.Returns.{buffer_in}
 use Rattle.bd_space.specs.ReadItems.{hand_out}
+use Rattle.bd_keys.proofs.Keys.{word_eq, word_self}
 use Rattle.bd_keys.proofs.Rising.{Rising, distinct}
 use Rattle.bd_keys.proofs.Found.{none_found, find_gone, find_stays}
 use Rattle.bd_buffers.specs.declared.rows.Row.{Row}
@@ -24,8 +25,39 @@ use Rattle.bd_buffers.specs.declared.record.Record.{Record}
 use Rattle.bd_buffers.specs.Record.{is_record_at, record_in}
 use Rattle.bd_buffers.specs.Homes.{home_key, AreHomes, Forgets, ForgetsRecords}
 use Rattle.bd_buffers.specs.Rows.{live, in_row}
-use Rattle.bd_buffers.proofs.Listed.{key_word, told_handed}
 use Rattle.bd_buffers.proofs.Made.{kept, find_kept, find_beside, find_new, none_of}
+
+word_by : (p q : ℕ) (t b : Bool) → same_word (home_key p) (home_key q) ≡ t → (p == q) ≡ b → t ≡ b
+word_by p q true true e f = refl
+word_by p q true false e f = absurd (eqb-false p q f (ap (λ (k : WordKey). k.word) (word_eq (home_key p) (home_key q) e)))
+word_by p q false true e f =
+    let same = eqb-true p q f in
+    absurd (false≢true (sym e ∙ ap (λ k. same_word (home_key p) (home_key k)) (sym same) ∙ word_self (home_key p)))
+word_by p q false false e f = refl
+
+-- the keys of two places are the same where the places are
+key_word : (p q : ℕ) → same_word (home_key p) (home_key q) ≡ (p == q)
+key_word p q = word_by p q (same_word (home_key p) (home_key q)) (p == q) refl refl
+
+-- where a buffer is handed out
+module _ (test : Buffer → Bool) (of : Buffer → ℕ) (same : (b : Buffer) → test (hand_out b) ≡ test b) (alike : (b : Buffer) → of (hand_out b) ≡ of b) where
+  handed_first : (x : Buffer) (b : Bool) (o r : Option Buffer) → option_map of o ≡ option_map of r
+      → option_map of (cond (test (cond b (hand_out x) x)) (Some (cond b (hand_out x) x)) o) ≡ option_map of (cond (test x) (Some x) r)
+  handed_first x true o r rest = ap (λ t. option_map of (cond t (Some (hand_out x)) o)) (same x) ∙ by_test (test x)
+    where
+      by_test : (t : Bool) → option_map of (cond t (Some (hand_out x)) o) ≡ option_map of (cond t (Some x) r)
+      by_test true = ap (λ n. Some n) (alike x)
+      by_test false = rest
+  handed_first x false o r rest = by_test (test x)
+    where
+      by_test : (t : Bool) → option_map of (cond t (Some x) o) ≡ option_map of (cond t (Some x) r)
+      by_test true = refl
+      by_test false = rest
+
+  -- what is told of the buffer that is found stays
+  told_handed : (q : Buffer → Bool) (bs : List Buffer) → option_map of (find test (changed q hand_out bs)) ≡ option_map of (find test bs)
+  told_handed q [] = refl
+  told_handed q (x ∷ bs) = handed_first x (q x) (find test (changed q hand_out bs)) (find test bs) (told_handed q bs)
 
 -- no buffer was made there
 abbrev pub NoneAt : ℕ → List Buffer → Type 0

@@ -1,17 +1,15 @@
 -- What a window keeps, through each change.
-use Rattle.std.proofs.Common.{◌≡◌, ℕ, ◌+◌, ◌/◌, ◌<◌, ◌≤◌, Bool, false, List, [], ◌∷◌, ◌++◌, length, get_or, refl, ap, sym, ◌∙◌, subst, cond, Some, None, Ok, arith, inl, inr, ◌⊎◌, All}
+use Rattle.std.proofs.Common.{◌≡◌, ℕ, ◌+◌, ◌/◌, ◌<◌, ◌≤◌, Bool, false, List, [], ◌∷◌, ◌++◌, length, get_or, refl, ap, sym, ◌∙◌, subst, Ok, arith, inl, inr, ◌⊎◌, All}
 use Rattle.std.specs.List.{between}
+use Rattle.std.specs.Prelude.{slice_index}
 use Rattle.std.proofs.lemmas.List.{length_push, get_or_push}
 use Rattle.std.proofs.lemmas.List.Elements.{All-push}
-use Rattle.bd_keys.specs.declared.key.WordKey.{WordKey}
-use Rattle.bd_keys.specs.Keys.{same_word}
-use Rattle.bd_keys.specs.Look.{look}
 use Rattle.bd_keys.proofs.Lists.{All_remove}
 use Rattle.bd_ground.specs.Tiles.{Tiles, Begins, without, with_span}
 use Rattle.bd_space.specs.declared.space.Buffer.{Buffer}
 use Rattle.bd_space.specs.Words.{changed}
 use Rattle.bd_space.specs.Windows.{needed, start_for}
-use Rattle.bd_space.specs.Freeing.{pointer, is_made_at}
+use Rattle.bd_space.specs.Freeing.{is_made_at}
 use Rattle.bd_space.specs.Spam.{one_way_from}
 use Rattle.bd_space.specs.ReadItems.{hand_out}
 use Rattle.bd_buffers.specs.declared.record.Record.{Record}
@@ -19,13 +17,12 @@ use Rattle.bd_buffers.specs.declared.ground.Ground.{Ground}
 use Rattle.bd_buffers.specs.Record.{standing, all_standing, bare, IsInMemory, is_record_at, hand_over}
 use Rattle.bd_buffers.specs.Buffer.{IsApart, IsPlaced, one_way_share, share_from}
 use Rattle.bd_buffers.specs.Rows.{IsWithout}
-use Rattle.bd_buffers.specs.Spots.{AreSpots, spot_key}
 use Rattle.bd_buffers.specs.Sums.{AreNoted, AreSums}
-use Rattle.bd_buffers.specs.Window.{IsWindow, Notes, Keeps, one_way_size, is_free_unit}
+use Rattle.bd_buffers.specs.Window.{IsWindow, AreStarts, Notes, Keeps, one_way_size, is_free_unit}
 use Rattle.bd_buffers.proofs.Changes.{All_changed}
 use Rattle.bd_buffers.proofs.Places.{IsGiven, given_says}
 use Rattle.bd_buffers.proofs.Kept.{window_push, window_handed, one_way_push, one_way_handed, window_removed, one_way_removed}
-use Rattle.bd_buffers.proofs.Listed.{none_there, spots_noted, spots_handed, spots_forgotten}
+use Rattle.bd_buffers.proofs.Listed.{starts_noted}
 use Rattle.bd_buffers.proofs.Shares.{sums_pushed, sums_handed, sums_without}
 use Rattle.bd_buffers.proofs.Standing.{all_of, of_all, all_stay, in_longer, same_standing, pushed_standing, handed_standing, without_standing}
 use Rattle.bd_buffers.proofs.Units.{tiles_more, tiles_handed, tiles_less, taken_units, begins_there}
@@ -41,7 +38,7 @@ notes_handed p bs g is = record {
   window = window_handed g.size p bs is.window;
   whole = is.whole;
   tiles = tiles_handed p bs g.spans is.tiles;
-  starts = spots_handed p bs g.spots is.starts;
+  starts = All_changed p hand_out (λ b. slice_index g.starts.items (b.start / 8) ≡ b.made) (λ b h. h) bs is.starts;
   total = is.total ∙ sym (one_way_handed p bs);
   sums = sums_handed p bs g.senders is.sums;
 }
@@ -56,9 +53,8 @@ keeps_handed n rs g is = record {
 
 notes_without : (b : Buffer) (bs new : List Buffer) (g left : Ground) → Notes bs g → IsWithout b bs new → left.size ≡ g.size → left.spans.size ≡ g.spans.size
     → ((free : ℕ → Bool) → Tiles free g.spans → ((u : ℕ) → b.start / 8 ≤ u → u < b.start / 8 + b.size / 8 → free u ≡ false) → Tiles (with_span (b.start / 8) (b.size / 8) free) left.spans)
-    → ((k : WordKey) → look left.spots k ≡ cond (same_word (spot_key (pointer b)) k) None (look g.spots k))
-    → left.one_way + one_way_share b ≡ g.one_way → ((f : ℕ → ℕ) → AreNoted g.senders (λ m. f m + share_from m b) → AreNoted left.senders f) → Notes new left
-notes_without b bs new g left is gone size units spans spots share senders =
+    → left.starts ≡ g.starts → left.one_way + one_way_share b ≡ g.one_way → ((f : ℕ → ℕ) → AreNoted g.senders (λ m. f m + share_from m b) → AreNoted left.senders f) → Notes new left
+notes_without b bs new g left is gone size units spans starts share senders =
     let total = is.total in
     let less = one_way_removed bs gone.index b gone.within in
     let own = ap one_way_share (gone.at b) in
@@ -68,30 +64,30 @@ notes_without b bs new g left is gone size units spans spots share senders =
       window = subst (λ n. IsWindow n new) (sym size) (subst (IsWindow g.size) (sym gone.left) (window_removed g.size gone.index bs b is.window gone.within));
       whole = omega (arith, whole, size, units);
       tiles = tiles_less g.size b bs new left.spans is.window gone (spans (is_free_unit bs) is.tiles (λ u from to. taken_units g.size u b bs new is.window gone from to));
-      starts = spots_forgotten g.size b bs new g.spots left.spots is.starts is.window gone spots;
+      starts = subst (λ v. AreStarts new v.items) (sym starts) (subst (λ xs. AreStarts xs g.starts.items) (sym gone.left) (All_remove (λ b. slice_index g.starts.items (b.start / 8) ≡ b.made) bs gone.index gone.within is.starts));
       total = omega (arith, total, less, own, rest, share);
       sums = senders (one_way_from new) (sums_without b bs new g.senders gone is.sums);
     }
 
 pub keeps_without : (r : Record) (rs new : List Record) (g left : Ground) → Keeps rs g → IsWithout r rs new → left.memory ≡ g.memory → left.size ≡ g.size → left.spans.size ≡ g.spans.size
     → ((free : ℕ → Bool) → Tiles free g.spans → ((u : ℕ) → r.start / 8 ≤ u → u < r.start / 8 + r.size / 8 → free u ≡ false) → Tiles (with_span (r.start / 8) (r.size / 8) free) left.spans)
-    → ((k : WordKey) → look left.spots k ≡ cond (same_word (spot_key (65536 + r.start)) k) None (look g.spots k))
-    → left.one_way + one_way_share (bare r) ≡ g.one_way → ((f : ℕ → ℕ) → AreNoted g.senders (λ m. f m + share_from m (bare r)) → AreNoted left.senders f) → Keeps new left
-keeps_without r rs new g left is gone memory size units spans spots share senders =
+    → left.starts ≡ g.starts → left.one_way + one_way_share (bare r) ≡ g.one_way → ((f : ℕ → ℕ) → AreNoted g.senders (λ m. f m + share_from m (bare r)) → AreNoted left.senders f) → Keeps new left
+keeps_without r rs new g left is gone memory size units spans starts share senders =
     let m = g.memory in
     let P : List ℕ → Type 0 = λ n. Notes (all_standing n new) left in
     let Q : List ℕ → Type 0 = λ n. All (IsInMemory n) new in
     record {
-      notes = subst P (sym memory) (notes_without (standing m r) (all_standing m rs) (all_standing m new) g left is.notes (without_standing m r rs new gone) size units spans spots share senders);
+      notes = subst P (sym memory) (notes_without (standing m r) (all_standing m rs) (all_standing m new) g left is.notes (without_standing m r rs new gone) size units spans starts share senders);
       there = subst Q (sym memory) (subst (λ xs. All (IsInMemory m) xs) (sym gone.left) (All_remove (IsInMemory m) rs gone.index gone.within is.there));
     }
 
 -- ---- memory grows, and room to note what is free
 
-pub keeps_memory : (rs : List Record) (g left : Ground) → Keeps rs g → left.size ≡ g.size → left.one_way ≡ g.one_way → left.senders ≡ g.senders → left.spots ≡ g.spots
+pub keeps_memory : (rs : List Record) (g left : Ground) → Keeps rs g → left.size ≡ g.size → left.one_way ≡ g.one_way → left.senders ≡ g.senders
+    → ((j : ℕ) → slice_index left.starts.items j ≡ slice_index g.starts.items j)
     → ((i j : ℕ) → j ≤ length g.memory → between i j left.memory ≡ between i j g.memory) → length g.memory ≤ length left.memory
     → left.spans.size ≡ g.spans.size → ((free : ℕ → Bool) → Tiles free g.spans → Tiles free left.spans) → Keeps rs left
-keeps_memory rs g left is size one_way senders spots kept longer units tiles =
+keeps_memory rs g left is size one_way senders starts kept longer units tiles =
     let bs = all_standing g.memory rs in
     let old = is.notes in
     let whole = old.whole in
@@ -100,7 +96,7 @@ keeps_memory rs g left is size one_way senders spots kept longer units tiles =
       window = subst (λ n. IsWindow n bs) (sym size) old.window;
       whole = omega (arith, whole, size, units);
       tiles = tiles (is_free_unit bs) old.tiles;
-      starts = subst (AreSpots bs) (sym spots) old.starts;
+      starts = λ k d lt. starts ((get_or bs k d).start / 8) ∙ old.starts k d lt;
       total = omega (arith, total, one_way);
       sums = subst (AreSums bs) (sym senders) old.sums;
     } in
@@ -140,9 +136,9 @@ module _ (r : Record) (rs : List Record) (g left : Ground) (is : Keeps rs g) (ne
 
   pub keeps_pushed : IsInMemory left.memory r → length left.memory ≡ length g.memory → left.size ≡ g.size → left.spans.size ≡ g.spans.size
       → Tiles (without (r.start / 8) (r.size / 8) (is_free_unit old)) left.spans
-      → ((k : WordKey) → look left.spots k ≡ cond (same_word (spot_key (65536 + r.start)) k) (Some r.made) (look g.spots k))
+      → slice_index left.starts.items (r.start / 8) ≡ r.made → ((j : ℕ) → (j ≡ r.start / 8 → ⊥) → slice_index left.starts.items j ≡ slice_index g.starts.items j)
       → left.one_way ≡ g.one_way + one_way_share (bare r) → AreNoted left.senders (λ m. one_way_from old m + share_from m (bare r)) → Keeps (rs ++ r ∷ []) left
-  keeps_pushed inside len size units tiles spots share senders =
+  keeps_pushed inside len size units tiles at others_at share senders =
       let notes = is.notes in
       let whole = notes.whole in
       let total = notes.total in
@@ -153,7 +149,7 @@ module _ (r : Record) (rs : List Record) (g left : Ground) (is : Keeps rs g) (ne
         window = subst (λ n. IsWindow n (old ++ new ∷ [])) (sym size) window;
         whole = omega (arith, whole, size, units);
         tiles = tiles_more g.size old new left.spans placed tiles;
-        starts = spots_noted old new g.spots left.spots notes.starts (none_there g.size r.size old new notes.window (omega (arith, sized)) given.least.room.free) spots;
+        starts = starts_noted g.size old new g.starts.items left.starts.items notes.window notes.starts given.least.room.aligned (omega (arith, sized)) given.least.room.free at others_at;
         total = omega (arith, total, pushed, share);
         sums = sums_pushed old new left.senders senders;
       } in

@@ -2,7 +2,6 @@ pub mod Buffer
 pub mod Record
 pub mod Holes
 pub mod Rows
-pub mod Spots
 pub mod Sums
 pub mod Window
 pub mod Stands

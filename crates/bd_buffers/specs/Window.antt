@@ -1,5 +1,5 @@
 -- A window: room for a buffer, the budget of one-way buffers, and what is so of every window.
-use Rattle.std.specs.Prelude.{ℕ, ◌≡◌, ◌+◌, length, ◌*◌, ◌%◌, ◌<◌, ◌≤◌, Bool, not, List, filter, sum_by, min, IsTrue, All, AllPairs}
+use Rattle.std.specs.Prelude.{ℕ, ◌≡◌, ◌+◌, length, slice_index, ◌*◌, ◌/◌, ◌%◌, ◌<◌, ◌≤◌, Bool, not, List, filter, sum_by, min, IsTrue, All, AllPairs}
 use Rattle.bd_ways.specs.Words.{Cause, Buffer}
 use Rattle.bd_uapi.specs.declared.fault.Cause.TheVariants.{NoRoom, OverBudget}
 use Rattle.bd_buffers.specs.Buffer.{IsApart, IsPlaced}
@@ -11,7 +11,6 @@ use Rattle.bd_keys.specs.Look.{word_room}
 use Rattle.bd_buffers.specs.Holes.{Hole}
 use Rattle.bd_buffers.specs.declared.record.Record.{Record}
 use Rattle.bd_buffers.specs.Record.{all_standing, IsInMemory}
-use Rattle.bd_buffers.specs.Spots.{AreSpots}
 use Rattle.bd_buffers.specs.Sums.{AreSums}
 
 -- n bytes at p are free, in a window of this size with these live buffers
@@ -56,13 +55,17 @@ is_free_byte buffers q = list_all (λ b. not (is_in b.start b.size q)) buffers
 abbrev pub is_free_unit : List Buffer → ℕ → Bool
 is_free_unit buffers u = is_free_byte buffers (8 * u)
 
--- what a window keeps of its buffers: the units that none has are noted as free, each is found by its pointer, and each sender's sum
+-- where each begins is noted where it was made
+abbrev pub AreStarts : List Buffer → List ℕ → Type 0
+AreStarts buffers starts = All (λ b. slice_index starts (b.start / 8) ≡ b.made) buffers
+
+-- what a window keeps of its buffers: the units that none has are noted as free, each is found by where it begins, and each sender's sum
 -- is what its one-way buffers take
 pub record Notes (buffers : List Buffer) (g : Ground) : Type 0 where
   pub window : IsWindow g.size buffers
   pub whole : g.size ≡ 8 * g.spans.size
   pub tiles : Tiles (is_free_unit buffers) g.spans
-  pub starts : AreSpots buffers g.spots
+  pub starts : AreStarts buffers g.starts.items
   pub total : g.one_way ≡ one_way_size buffers
   pub sums : AreSums buffers g.senders
 
@@ -73,11 +76,11 @@ pub record Keeps (records : List Record) (g : Ground) : Type 0 where
 
 -- how many more buffers can be noted
 abbrev pub room_left : Rows → Ground → ℕ
-room_left t g = min t.room (min (word_room g.spots) (word_room g.senders))
+room_left t g = min t.room (word_room g.senders)
 
 -- up to which place there is memory, and room to note what is free
 abbrev pub reach_of : Ground → ℕ
-reach_of g = min (length g.memory) (8 * min (length g.spans.holes) (length g.spans.begins.items))
+reach_of g = min (length g.memory) (8 * min (length g.starts.items) (min (length g.spans.holes) (length g.spans.begins.items)))
 
 -- a window as contracts see it: its size, its live buffers, oldest first, what they leave free, how many more it has room to note, and up to
 -- which place it has memory

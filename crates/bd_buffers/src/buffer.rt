@@ -1,6 +1,6 @@
 //! A buffer: its room, its place and its pointer.
 
-ghost use Rattle.std.specs.Prelude.{◌≡◌, ◌+◌, ◌<◌, ◌^◌};
+ghost use Rattle.std.specs.Prelude.{◌≡◌, ◌+◌, ◌-◌, ◌/◌, ◌<◌, ◌^◌};
 ghost use Rattle.bd_space.specs.Windows as room;
 ghost use Rattle.bd_space.specs.Freeing as freeing;
 ghost use Rattle.bd_buffers.specs.Buffer as spec;
@@ -20,18 +20,18 @@ pub fn needed(data_size: u64, offsets_size: u64) -> u32
     (data_size.next_multiple_of(8) + offsets_size.next_multiple_of(8)).max(8) as u32
 }
 
-/// The pointer by which its receiver knows the buffer that begins there. Takes no memory.
-pub(crate) fn pointer_at(start: u32) -> u64
-    ensures { result ≡ 65536 + start }
+/// The unit that a pointer leads to. Takes no memory.
+pub(crate) fn unit_at(pointer: u64) -> usize
+    ensures { result ≡ (pointer - 65536) / 8 }
 {
-    FIRST_POINTER + u64::from(start)
+    (pointer.saturating_sub(FIRST_POINTER) / 8) as usize
 }
 
 /// The pointer by which its receiver knows a buffer. Takes no memory.
 pub fn pointer_of(b: &Lent<'_>) -> u64
     ensures { result ≡ freeing.pointer b.now }
 {
-    pointer_at(b.start())
+    FIRST_POINTER + u64::from(b.start())
 }
 
 /// What a buffer adds to the one-way ones.

@@ -5,8 +5,8 @@ ghost use Rattle.bd_space.specs.{declared.space.Buffer.{Buffer}, Words.{changed}
 ghost use Rattle.bd_space.specs.{Windows.{needed, start_in, over_budget_in, start_for}, Freeing.{is_made_at}};
 ghost use Rattle.bd_space.specs.{ReadItems.{hand_out}, Returns.{buffer_in}, Spam.{floods}};
 
-use crate::buffer::{needed, one_way_share, pointer_at};
-use crate::ground::{Ground, end_row, key_at};
+use crate::buffer::{needed, one_way_share, pointer_of};
+use crate::ground::{Ground, end_row, note};
 use crate::home::forget;
 use crate::lent::{Lent, lay, lent_from};
 use crate::listing::{list_made, next_from};
@@ -67,7 +67,7 @@ impl Window {
                 size,
                 one_way: 0,
                 senders: WordMap::new(alloc),
-                spots: WordMap::new(alloc),
+                starts: Vec::new(alloc),
                 spans: Spans::new(alloc, size / 8),
                 memory: Memory::new(alloc),
             },
@@ -169,7 +169,6 @@ impl Window {
         ensures grown { OnErr result (HasBufferRoom self.old start size → ⊥) }
     {
         self.buffers.reserve(1)?;
-        self.ground.spots.reserve(1)?;
         self.ground.senders.reserve(1)?;
         let end = start as usize + size as usize;
         self.ground.reserve(end)
@@ -193,8 +192,7 @@ impl Window {
     {
         let record = lay(&mut self.ground.memory, &buffer);
         self.ground.spans.take(record.start / 8, record.size / 8);
-        let key = key_at(pointer_at(record.start));
-        self.ground.spots.insert(key, record.made);
+        note(&mut self.ground.starts, record.start, record.made);
         raise(&mut self.ground.senders, &record);
         self.ground.one_way += one_way_share(&record);
         self.buffers.push(record);
@@ -216,9 +214,11 @@ impl Window {
         ensures found { WindowTells (Stands self.now) result (λ size bs. find (at_pointer pointer) bs) }
         ensures placed { IfSome result (λ b. IsPlaced 4194304 b) }
     {
-        match self.ground.spots.get(key_at(pointer)) {
-            None => None,
-            Some(made) => self.buffer(made),
+        let b = self.buffer(self.ground.noted_at(pointer))?;
+        if pointer_of(&b) == pointer {
+            Some(b)
+        } else {
+            None
         }
     }
 

@@ -43,4 +43,4 @@ release-requires-clause-inside c =
 pub returns-in-Some-clause-kept : goal.returns-in-Some-clause-kept
 returns-in-Some-clause-kept c =
     keeps_without c.in-Some.record (live c.args.buffers.now.rows) (live c.take_at.new.self.rows) c.args.ground.now c.release.new.self c.requires.kept c.in-Some.ensures.live
-    c.release.ensures.memory c.release.ensures.size.0 c.release.ensures.size.1 c.release.ensures.spans c.release.ensures.spots c.release.ensures.one_way c.release.ensures.senders
+    c.release.ensures.memory c.release.ensures.size.0 c.release.ensures.size.1 c.release.ensures.spans c.release.ensures.starts c.release.ensures.one_way c.release.ensures.senders

@@ -10,7 +10,7 @@ returns-clause-kept c = λ is.
         window = is.notes.window;
         whole = omega (arith, whole, c.clear.ensures.size);
         tiles = c.clear.ensures.tiles (is_free_unit []) (is_free_unit []) is.notes.tiles (λ u. refl);
-        starts = is.notes.starts;
+        starts = λ k d lt. absurd (omega arith);
         total = is.notes.total;
         sums = is.notes.sums;
       };

@@ -1,7 +1,4 @@
 use Rattle.std.proofs.Common.{sym, ◌∙◌, ◌≡◌, ◌⊎◌, ap, subst, cond, arith, Ok, Some, [], ◌∷◌, ◌++◌, ◌+◌, ◌/◌, All, refl, length, ◌<◌, ◌≤◌, ℕ}
-use Rattle.bd_keys.specs.declared.key.WordKey.{WordKey}
-use Rattle.bd_keys.specs.Keys.{same_word}
-use Rattle.bd_keys.specs.Look.{look}
 use Rattle.bd_ground.specs.Tiles.{HasRoom}
 use Rattle.bd_space.specs.declared.space.Buffer.{Buffer}
 use Rattle.bd_space.specs.Windows.{needed, start_for}
@@ -11,7 +8,6 @@ use Rattle.bd_buffers.specs.declared.ground.Ground.{Ground}
 use Rattle.bd_buffers.specs.Record.{standing, all_standing, bare}
 use Rattle.bd_buffers.specs.Rows.{live}
 use Rattle.bd_buffers.specs.Stands.{CanHold}
-use Rattle.bd_buffers.specs.Spots.{spot_key}
 use Rattle.bd_buffers.specs.Window.{Keeps, is_free_unit}
 use Rattle.bd_buffers.proofs.Places.{holds_inside}
 use Rattle.bd_buffers.proofs.Shares.{at_sender, from_within}
@@ -45,11 +41,14 @@ take-requires-clause-small c =
     let start = ap (λ (x : Buffer). x.start) c.lay-record.ensures.standing in
     omega (arith, inside, small, size, start)
 
-pub insert-requires : goal.insert-requires
-insert-requires c =
-    let notes = c.requires.room.notes in
-    let room = ap (λ (v : Window). v.room) c.self.view_is in
-    omega (arith, notes, room)
+pub note-requires : goal.note-requires
+note-requires c =
+    let bytes = c.requires.room.bytes in
+    let reach = ap (λ (v : Window). v.reach) c.self.view_is in
+    let sized = c.requires.sized in
+    let size = ap (λ (x : Buffer). x.size) c.lay-record.ensures.standing in
+    let start = ap (λ (x : Buffer). x.start) c.lay-record.ensures.standing in
+    omega (arith, bytes, reach, sized, size, start)
 
 pub raise-requires-clause-room : goal.raise-requires-clause-room
 raise-requires-clause-room c =
@@ -131,18 +130,17 @@ invariant_of-self c =
       size = g.size;
       one_way = g.one_way + c.one_way_share.result;
       senders = c.raise.new.sums;
-      spots = c.insert.new.self;
+      starts = c.note.new.starts;
       spans = c.take.new.self;
       memory = new;
     } in
     let bytes = c.requires.room.bytes in
     let reach = ap (λ (v : Window). v.reach) c.self.view_is in
     let room : HasRoom g.spans (r.start / 8 + r.size / 8) = record { holes = omega (arith, bytes, reach, start, size); begins = omega (arith, bytes, reach, start, size) } in
-    let same = c.key_at-key.ensures ∙ ap spot_key c.pointer_at.ensures in
     subst (λ xs. Keeps xs left) (sym c.push.ensures.live)
     (keeps_pushed r rs g left c.self.invariant last sized placed others c.lay-record.ensures.inside c.lay-record.ensures.len refl c.take.ensures.size
     (c.take.ensures.tiles (is_free_unit bs) c.self.invariant.notes.tiles (begins r rs g left c.self.invariant last sized placed others) room)
-    (λ k. subst (λ (key : WordKey). look c.insert.new.self k ≡ cond (same_word key k) (Some r.made) (look g.spots k)) same (c.insert.ensures.put k))
+    c.note.ensures.at c.note.ensures.others
     (ap (λ n. g.one_way + n) c.one_way_share.ensures) (c.raise.ensures.sums (one_way_from bs) c.self.invariant.notes.sums))
 
 pub returns-clause-stands : goal.returns-clause-stands
