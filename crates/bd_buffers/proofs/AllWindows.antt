@@ -32,7 +32,8 @@ use Rattle.bd_buffers.specs.Homes.{home_key, AreHomes, Forgets}
 use Rattle.bd_buffers.specs.Owners.{AreInOrder}
 use Rattle.bd_buffers.specs.Window as single
 use Rattle.bd_buffers.specs.WindowsStand.{ProcessWindow, seen, window_of, with_buffers, is_owned_by, is_of, WindowsOf, Stands, buffers_held, CanHoldIn, made_of_buffer}
-use Rattle.bd_buffers.proofs.Homes.{homes_handed, homes_closed, home_finds}
+use Rattle.bd_buffers.proofs.Homes.{homes_handed, homes_closed, home_finds, found_kept}
+use Rattle.bd_buffers.proofs.Made.{kept as among}
 use Rattle.bd_buffers.proofs.InSpace.{added, added_elsewhere, kept_in, handed_in, others_stay}
 use Rattle.bd_buffers.proofs.Order.{lives_below, process_made, buffer_made, made_kept, made_handed, process_gone}
 
@@ -295,16 +296,23 @@ lives_at (q ∷ ps) zero d r h e = ap (λ b. b || lives_in ps r) (eq-eqb q.made 
 lives_at (q ∷ ps) (suc i) d r h e =
     elim (q.made == r) as (λ b. (b || lives_in ps r) ≡ true) [ true ↦ refl | false ↦ lives_at ps i d r (omega arith) e ]
 
+-- what stands at an index is the window of the process there
+at_index : (t : Windows) (bound i : ℕ) (ps : List Process) (bs : List Buffer) (w : OwnedWindow) → WindowsOf t bound ps bs → i < length t.windows → w ≡ get_or t.windows i w
+    → (i < length ps) × (seen w ≡ window_of bs (get_or ps i no_process))
+at_index t bound i ps bs w stands within at =
+    let h : i < length ps = omega (arith, length-map t.windows seen, ap length stands.windows_are, length-map ps (window_of bs)) in (
+      h,
+      ap seen at ∙ sym (list.get_or-map seen t.windows i w) ∙ ap (λ xs. get_or xs i (seen w)) stands.windows_are ∙ get_or-map (window_of bs) ps i no_process (seen w) h,
+    )
+
 pub buffer_added : (t u : Windows) (bound i : ℕ) (ps : List Process) (bs : List Buffer) (b : Buffer) (w x : OwnedWindow) → b.made ≡ bound → IsAt t b.receiver i w
     → x.owner ≡ w.owner → Stands x.window w.window.size (w.window.buffers ++ b ∷ []) → u.windows ≡ set t.windows i x → AreHomes u.homes (bs ++ b ∷ []) → WindowsOf t bound ps bs
     → WindowsOf u (bound + 1) ps (bs ++ b ∷ [])
 buffer_added t u bound i ps bs b w x e is own as_one is_set homes stands =
-    let within = is.within in
-    let h : i < length ps = omega (arith, length-map t.windows seen, ap length stands.windows_are, length-map ps (window_of bs)) in
+    let there = at_index t bound i ps bs w stands is.within is.at in
+    let h = there.0 in
+    let at = there.1 in
     let q = get_or ps i no_process in
-    let at : seen w ≡ window_of bs q =
-    ap seen is.at ∙ sym (list.get_or-map seen t.windows i w) ∙ ap (λ xs. get_or xs i (seen w)) stands.windows_are
-    ∙ get_or-map (window_of bs) ps i no_process (seen w) h in
     let made : q.made ≡ b.receiver = sym (ap (λ (y : ProcessWindow). y.owner) at) ∙ is.owner_is in
     let new : seen x ≡ with_added b (window_of bs q) = seen_as x w (λ xs. xs ++ b ∷ []) own as_one ∙ ap (with_added b) at in
     record {
@@ -348,6 +356,23 @@ not_living ps p none = nobody ps (none_found (λ (q : Process). q.made == p) ps 
     nobody (q ∷ ps) all =
         let P : Process → Type 0 = λ x. (x.made == p) ≡ false in
         ap (λ b. b || lives_in ps p) (All-head P q ps all) ∙ nobody ps (All-tail P q ps all)
+
+-- a buffer that is found in some window is the one that was made there
+pub guessed : (t : Windows) (bound i made : ℕ) (ps : List Process) (bs : List Buffer) (w : OwnedWindow) (b : Buffer) → WindowsOf t bound ps bs → i < length t.windows → w ≡ get_or t.windows i w
+    → Some b ≡ buffer_in w.window.buffers made → Some b ≡ buffer_in bs made
+guessed t bound i made ps bs w b stands within at found =
+    let q = get_or ps i no_process in
+    let there = at_index t bound i ps bs w stands within at in
+    one_kept (λ x. x.receiver == q.made) (buffer_in bs made)
+    (found ∙ ap (λ (x : ProcessWindow). buffer_in x.buffers made) there.1 ∙ found_kept (λ x. x.receiver == q.made) bs made stands.made.buffers_in_order)
+  where
+    by_test : (x : Buffer) (k : Bool) → Some b ≡ cond k (Some x) None → Some b ≡ Some x
+    by_test x true e = e
+    by_test x false e = cc
+
+    one_kept : (keep : Buffer → Bool) (o : Option Buffer) → Some b ≡ among keep o → Some b ≡ o
+    one_kept keep None e = e
+    one_kept keep (Some x) e = by_test x (keep x) e
 
 -- what was made there lies in the window of the process whose home it is
 pub looked_up : (t : Windows) (bound made p : ℕ) (ps : List Process) (bs : List Buffer) (w : OwnedWindow) → WindowsOf t bound ps bs → look t.homes (home_key made) ≡ Some p

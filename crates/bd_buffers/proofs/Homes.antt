@@ -70,7 +70,7 @@ abbrev home_of : Option Buffer → Option ℕ
 home_of o = option_map (λ (b : Buffer). b.receiver) o
 
 -- what of the buffer made there is among those kept
-found_kept : (keep : Buffer → Bool) (bs : List Buffer) (m : ℕ) → Rising made_of bs → buffer_in (filter keep bs) m ≡ kept keep (buffer_in bs m)
+pub found_kept : (keep : Buffer → Bool) (bs : List Buffer) (m : ℕ) → Rising made_of bs → buffer_in (filter keep bs) m ≡ kept keep (buffer_in bs m)
 found_kept keep bs m rising = find_kept made_of keep m bs (distinct made_of bs rising)
 
 -- ---- where there is no home, or another's

@@ -1,25 +1,16 @@
 -- Where a search by a key that rises ends, and what is found where elements come or go.
 use Rattle.std.proofs.Common.{◌≡◌, ℕ, ◌<◌, ◌≤◌, Bool, true, false, cond, List, [], ◌∷◌, ◌++◌, length, get_or, refl, ap, sym, ◌∙◌, arith, All, ne_eqb, ltb, inl, inr}
-use Rattle.std.specs.Prelude.{◌==◌, find, filter, Some, None, Option, option_map}
-use Rattle.std.specs.List.Sorted.{IsNonDecreasingBy, IsPartitionedBy, IsPartitionPoint}
+use Rattle.std.specs.Prelude.{◌==◌, find, filter, Some, None, Option, option_map, MatchOption, Result, Ok, Err}
+use Rattle.std.specs.List.Sorted.{IsNonDecreasingBy, IsPartitionedBy, IsPartitionPoint, IsBinarySearchResult, IsSearchInRange}
 use Rattle.std.proofs.lemmas.Bool.{cases_lt, eqb-true, ltb-true, ltb-false}
 use Rattle.std.proofs.lemmas.List.Sorted.{IsPartitionedBy-ltb}
 use Rattle.std.proofs.lemmas.List.Elements.{All-head, All-tail}
-use Rattle.bd_keys.proofs.Rising.{Rising, Distinct, non_decreasing, find_none, rest_differ, pairs_tail}
+use Rattle.std.specs.Ordering.{nat_cmp}
+use Rattle.std.specs.Result.{result_ok}
+use Rattle.bd_keys.proofs.Rising.{Rising, Distinct, find_none, rest_differ, pairs_tail}
+use Rattle.bd_keys.proofs.Rising.{searched as by_halves}
 
 module _ {A : Type 0} (key : A → ℕ) where
-  -- where a search by the key ends, and the element there has another
-  none_at : (m i : ℕ) (xs : List A) → Rising key xs → ((k : ℕ) (d : A) → 0 ≤ k → k < i → key (get_or xs k d) < m) → ((k : ℕ) (d : A) → i ≤ k → k < length xs → m ≤ key (get_or xs k d))
-      → ((d : A) → i < length xs → key (get_or xs i d) ≡ m → ⊥) → All (λ y. (key y == m) ≡ false) xs
-  none_at m i xs rising below from other k d lt =
-      elim (cases_lt k i) [
-        | inl before ↦ let low = below k d (omega arith) before in ne_eqb (key (get_or xs k d)) m (λ e. absurd (omega (arith, e, low)))
-        | inr ge ↦ elim (cases_lt i k) [
-          | inl after ↦ let up = rising i k d after lt in let high = from i d (omega arith) (omega arith) in ne_eqb (key (get_or xs k d)) m (λ e. absurd (omega (arith, e, up, high)))
-          | inr le ↦ let same : k ≡ i = omega arith in rw same (ne_eqb (key (get_or xs i d)) m (other d (omega arith)))
-        ]
-      ]
-
   -- where a search by the key ends
   pub searched : (m i : ℕ) (xs : List A) → IsNonDecreasingBy key xs
       → (IsPartitionedBy (λ y. ltb (key y) m) xs → IsPartitionPoint (λ y. ltb (key y) m ≡ true) (λ y. ltb (key y) m ≡ false) xs i) → IsPartitionPoint (λ y. key y < m) (λ y. m ≤ key y) xs i
@@ -27,11 +18,11 @@ module _ {A : Type 0} (key : A → ℕ) where
       let point = ends (IsPartitionedBy-ltb key xs m order) in
       (λ k d low lt. ltb-true _ _ (point.0 k d low lt), λ k d low lt. ltb-false _ _ (point.1 k d low lt))
 
-  -- and none has it, where the element there has another
-  pub missed : (m i : ℕ) (xs : List A) → Rising key xs
-      → (IsPartitionedBy (λ y. ltb (key y) m) xs → IsPartitionPoint (λ y. ltb (key y) m ≡ true) (λ y. ltb (key y) m ≡ false) xs i)
-      → ((d : A) → i < length xs → key (get_or xs i d) ≡ m → ⊥) → All (λ y. (key y == m) ≡ false) xs
-  missed m i xs rising ends other = let point = searched m i xs (non_decreasing key xs rising) ends in none_at m i xs rising point.0 point.1 other
+  -- what a search by halves answers is where an element has the key, or that none has
+  pub halved : (m : ℕ) (xs : List A) (r : Result ℕ ℕ) → Rising key xs → IsBinarySearchResult (λ x. nat_cmp (key x) m) xs r → IsSearchInRange r (length xs)
+      → MatchOption (result_ok r) (All (λ y. (key y == m) ≡ false) xs) (λ i. (i < length xs) × ((d : A) → key (get_or xs i d) ≡ m))
+  halved m xs (Ok i) rising found bound = (bound, by_halves key m xs (Ok i) rising found)
+  halved m xs (Err i) rising found bound = by_halves key m xs (Err i) rising found
 
 -- ---- what is found where an element comes between others
 

@@ -1,6 +1,6 @@
 -- Windows by whose they are: their owners rise.
 use Rattle.std.proofs.Common.{◌≡◌, ℕ, ◌<◌, Bool, true, false, cond, List, [], ◌∷◌, length, get_or, map, refl, ap, sym, ◌∙◌, arith, All, Some, None, nat_lt, rules, tests, eq-eqb, ne_eqb, ◌+◌, ◌-◌, not, subst, ltb}
-use Rattle.std.specs.Prelude.{◌==◌, find, filter, Option, IfSome, option_copied, is_some}
+use Rattle.std.specs.Prelude.{◌==◌, find, filter, Option, IfSome, MatchOption, option_copied, is_some}
 use Rattle.std.specs.List.{position, position_or_len, slice_get}
 use Rattle.std.proofs.lemmas.Bool.{ltb-true, ltb-false}
 use Rattle.std.proofs.lemmas.Option.{get_or_from_slice_get, slice_get_past, slice_get_read}
@@ -49,6 +49,13 @@ module _ {A : Type 0} (key : A → ℕ) where
 
   pub position_none : (m : ℕ) (xs : List A) → All (λ x. (key x == m) ≡ false) xs → position (λ x. key x == m) xs ≡ None
   position_none m xs none = place_of (λ x. key x == m) xs (length xs) false (none_long m xs none) (beyond (length xs))
+
+module _ {A : Type 0} (key : A → ℕ) where
+  pub position_is : (m : ℕ) (xs : List A) (o : Option ℕ) → Rising key xs
+      → MatchOption o (All (λ y. (key y == m) ≡ false) xs) (λ i. (i < length xs) × ((d : A) → key (get_or xs i d) ≡ m)) → o ≡ position (λ x. key x == m) xs
+  position_is m xs None rising none = sym (position_none key m xs none)
+  position_is m [] (Some i) rising here = absurd (let lt = here.0 in omega (arith, lt))
+  position_is m (x ∷ xs) (Some i) rising here = sym (position_at key m (x ∷ xs) i x rising here.0 (here.1 x))
 
 pub look_found : {A : Type 0} (p : A → Bool) (xs : List A) (i : ℕ) → position p xs ≡ Some i → slice_get xs i ≡ find p xs
 look_found p xs i e = ap (slice_get xs) (sym (found_long p xs i (nat_lt (position_or_len p xs) (length xs)) e)) ∙ sym (find_at p xs)

@@ -24,25 +24,24 @@ impl OwnedWindow {
     }
 }
 
-/// Where the window of a process stands.
-pub(crate) fn position_of(windows: &[OwnedWindow], p: u64) -> Option<usize>
+/// Where the window of a process stands: as guessed, or as found by halves.
+pub(crate) fn position_of(windows: &[OwnedWindow], p: u64, guess: u32) -> Option<usize>
     requires order { AreInOrder windows.now }
     ensures { result ≡ position (is_owned_by p) windows.now }
 {
-    let i = windows.partition_point(|w| w.owner < p);
-    if i < windows.len() && windows[i].owner == p {
-        Some(i)
-    } else {
-        None
+    let near = guess as usize;
+    if near < windows.len() && windows[near].owner == p {
+        return Some(near);
     }
+    windows.binary_search_by_key(&p, |w| w.owner).ok()
 }
 
 /// The window of a process.
-pub(crate) fn owned_by(windows: &[OwnedWindow], p: u64) -> Option<&OwnedWindow>
+pub(crate) fn owned_by(windows: &[OwnedWindow], p: u64, guess: u32) -> Option<&OwnedWindow>
     requires order { AreInOrder windows.now }
     ensures { option_copied result ≡ find (is_owned_by p) windows.now }
 {
-    match position_of(windows, p) {
+    match position_of(windows, p, guess) {
         None => None,
         Some(i) => windows.get(i),
     }
@@ -60,33 +59,33 @@ pub(crate) fn is_last(windows: &[OwnedWindow], owner: u64) -> bool
 }
 
 /// Ends the buffer made there, in the window of a process.
-pub(crate) fn free_in(windows: &mut Vec<OwnedWindow>, p: u64, made: u64)
+pub(crate) fn free_in(windows: &mut Vec<OwnedWindow>, p: u64, guess: u32, made: u64)
     requires order { AreInOrder windows.old.items }
     ensures { map seen windows.new.items ≡
         changed (is_of p) (with_buffers (filter (λ b. not (is_made_at made b)))) (map seen windows.old.items) }
 {
-    if let Some(at) = position_of(windows, p) {
+    if let Some(at) = position_of(windows, p, guess) {
         windows[at].window.free(made);
     }
 }
 
 /// Marks the buffer made there, in the window of a process, as handed out.
-pub(crate) fn hand_out_in(windows: &mut Vec<OwnedWindow>, p: u64, made: u64)
+pub(crate) fn hand_out_in(windows: &mut Vec<OwnedWindow>, p: u64, guess: u32, made: u64)
     requires order { AreInOrder windows.old.items }
     ensures { map seen windows.new.items ≡
         changed (is_of p) (with_buffers (changed (is_made_at made) hand_out)) (map seen windows.old.items) }
 {
-    if let Some(at) = position_of(windows, p) {
+    if let Some(at) = position_of(windows, p, guess) {
         windows[at].window.hand_out(made);
     }
 }
 
 /// Forgets the homes of the live buffers of a process, and no others.
-pub(crate) fn forget_in(homes: &mut WordMap<u64>, windows: &[OwnedWindow], p: u64)
+pub(crate) fn forget_in(homes: &mut WordMap<u64>, windows: &[OwnedWindow], p: u64, guess: u32)
     requires order { AreInOrder windows.now }
     ensures { Forgets (buffers_held (find (is_owned_by p) windows.now)) homes.old homes.new }
 {
-    if let Some(w) = owned_by(windows, p) {
+    if let Some(w) = owned_by(windows, p, guess) {
         w.window.forget_homes(homes);
     }
 }

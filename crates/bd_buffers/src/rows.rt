@@ -24,12 +24,7 @@ fn index_by_halves(rows: &[Row], made: u64) -> Option<usize>
         (All (λ r. (r.made == made) ≡ false) rows.now)
         (λ i. (i < length rows.now) × ((d : Row) → (slice_index_or rows.now i d).made ≡ made)) }
 {
-    let i = rows.partition_point(|r| r.made < made);
-    if i < rows.len() && rows[i].made == made {
-        Some(i)
-    } else {
-        None
-    }
+    rows.binary_search_by_key(&made, |r| r.made).ok()
 }
 
 // The index of the first row that was made at a place or behind it.

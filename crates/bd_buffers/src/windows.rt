@@ -18,6 +18,7 @@ use crate::owned::{
 };
 use crate::window::Window;
 use bd_keys::WordMap;
+use bd_numbered::Guesses;
 use bd_uapi::Cause;
 use std::alloc::{AllocError, Global};
 use std::marker::Model;
@@ -29,6 +30,9 @@ pub struct Windows {
     windows: Vec<OwnedWindow>,
     // Whose window each live buffer is in, by where it was made. Of buffers that ended nothing is noted.
     homes: WordMap<u64>,
+    // Where the window of a process mostly stands, and where the one that a buffer is in.
+    owners: Guesses,
+    places: Guesses,
 }
 
 impl Model for Windows {
@@ -58,6 +62,8 @@ impl Windows {
         Windows {
             windows: Vec::new(alloc),
             homes: WordMap::new(alloc),
+            owners: Guesses::new(alloc),
+            places: Guesses::new(alloc),
         }
     }
 
@@ -80,6 +86,7 @@ impl Windows {
     {
         // Each step's process is newer than all that live.
         if is_last(&self.windows, place) {
+            self.owners.note(place, self.windows.len());
             self.windows.push_reserved(OwnedWindow {
                 owner: place,
                 window,
@@ -94,7 +101,7 @@ impl Windows {
             → MatchOption result ⊥ (λ w. Stands w.now.window q.window (buffers_of s.buffers p)) }
         ensures gone { (s : Space) → StandsIn self.now s → process_in s.processes p ≡ None → IfSome result (λ w. ⊥) }
     {
-        owned_by(&self.windows, p)
+        owned_by(&self.windows, p, self.owners.of(p))
     }
 
     /// Where a buffer for data and offsets of these sizes in bytes would begin in the window of a process.
@@ -142,7 +149,7 @@ impl Windows {
         ensures grown { OnErr result (HasBufferRoom self.old p start size → ⊥) }
     {
         self.homes.reserve(1)?;
-        match position_of(&self.windows, p) {
+        match position_of(&self.windows, p, self.owners.of(p)) {
             None => Ok(()),
             Some(at) => self.windows[at].window.reserve(start, size),
         }
@@ -158,18 +165,36 @@ impl Windows {
     {
         let receiver = buffer.receiver();
         let made = buffer.made();
-        if let Some(at) = position_of(&self.windows, receiver) {
-            let window = &mut self.windows[at].window;
-            // Each step's buffer is newer than all that are live.
-            if window.is_newest(made) {
-                self.homes.insert(home_key(made), receiver);
-                window.commit(buffer);
-            }
+        let at = match position_of(&self.windows, receiver, self.owners.of(receiver)) {
+            Some(at) => at,
+            None => unreachable!(),
+        };
+        self.owners.note(receiver, at);
+        self.places.note(made, at);
+        let window = &mut self.windows[at].window;
+        // Each step's buffer is newer than all that are live.
+        if window.is_newest(made) {
+            self.homes.insert(home_key(made), receiver);
+            window.commit(buffer);
         }
     }
 
     /// The live buffer made there.
     pub fn buffer(&self, made: u64) -> Option<Lent<'_>>
+        ensures found { Tells (StandsIn self.now) result (λ s. buffer_in s.buffers made) }
+        ensures placed { IfSome result (λ b. IsInWindow b) }
+    {
+        if let Some(w) = self.windows.get(self.places.of(made) as usize) {
+            if let Some(b) = w.window.buffer(made) {
+                return Some(b);
+            }
+        }
+        self.at_home(made)
+    }
+
+    // The same, where no guess tells whose window it is in.
+    #[inline(never)]
+    fn at_home(&self, made: u64) -> Option<Lent<'_>>
         ensures found { Tells (StandsIn self.now) result (λ s. buffer_in s.buffers made) }
         ensures placed { IfSome result (λ b. IsInWindow b) }
     {
@@ -220,7 +245,7 @@ impl Windows {
         ensures { Makes (StandsIn self.old) (StandsIn self.new) (λ s. without_buffer s made) }
     {
         if let Some(p) = self.homes.remove(home_key(made)) {
-            free_in(&mut self.windows, p, made);
+            free_in(&mut self.windows, p, self.owners.of(p), made);
         }
     }
 
@@ -231,7 +256,7 @@ impl Windows {
     {
         if let Some(made) = made {
             if let Some(p) = self.homes.get(home_key(made)) {
-                hand_out_in(&mut self.windows, p, made);
+                hand_out_in(&mut self.windows, p, self.owners.of(p), made);
             }
         }
     }
@@ -240,7 +265,7 @@ impl Windows {
     pub fn close(&mut self, p: u64)
         ensures { Makes (StandsIn self.old) (StandsIn self.new) (λ s. without_process s p) }
     {
-        forget_in(&mut self.homes, &self.windows, p);
+        forget_in(&mut self.homes, &self.windows, p, self.owners.of(p));
         close_among(&mut self.windows, p);
     }
 }

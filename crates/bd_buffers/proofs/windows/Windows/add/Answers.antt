@@ -66,10 +66,10 @@ returns-else-is_newest c = λ s stands e.
     let newest = c.is_newest.ensures.1 (subst P (e ∙ sym c.made-made.ensures) (older t s.steps p s.processes s.buffers w stands is.found)) in
     absurd (false≢true (sym c.if-is_newest.false ∙ newest))
 
-pub returns-in_default : goal.returns-in_default
+pub unreachable-requires : goal.unreachable-requires
 unfolding CanAdd
-returns-in_default c = λ s stands e.
+unreachable-requires c =
     let t = c.args.self.now in
     let p = c.args.buffer.receiver in
-    let missed = none_at (is_owned_by p) t.windows (sym (ap (position (is_owned_by p)) c.deref.ensures.value ∙ ap (λ (v : Windows). position (is_owned_by p) v.windows) c.self.view_is) ∙ sym (c.position_of.ensures ∙ ap (λ q. position (is_owned_by q) c.deref.result.now) c.receiver-receiver.ensures) ∙ c.in_default.is) in
+    let missed = none_at (is_owned_by p) t.windows (sym (ap (position (is_owned_by p)) c.deref.ensures.value ∙ ap (λ (v : Windows). position (is_owned_by p) v.windows) c.self.view_is) ∙ sym (c.position_of.ensures ∙ ap (λ q. position (is_owned_by q) c.deref.result.now) c.receiver-receiver.ensures) ∙ c.in-None.is) in
     absurd (can_hold_nowhere t p c.args.buffer.one_way c.args.buffer.size c.args.buffer.start missed c.requires.can_add)

@@ -1,38 +1,17 @@
-use Rattle.std.proofs.Common.{◌≡◌, ◌+◌, ◌∙◌, Some, None, refl, ap, sym}
-use Rattle.bd_keys.specs.Look.{look}
-use Rattle.bd_space.specs.declared.space.Buffer.{Buffer}
-use Rattle.bd_keys.proofs.Rising.{find_none}
+use Rattle.std.proofs.Common.{◌≡◌, ◌+◌, ◌<◌, ◌∙◌, List, length, get_or, refl, ap, sym, subst}
+use Rattle.std.proofs.lemmas.Bool.{ltb-true}
+use Rattle.bd_buffers.specs.declared.owned.OwnedWindow.{OwnedWindow}
 use Rattle.bd_buffers.specs.declared.windows.Windows.{Windows}
-use Rattle.bd_buffers.specs.Homes.{home_key}
-use Rattle.bd_buffers.proofs.Homes.{none_home}
-use Rattle.bd_buffers.proofs.AllWindows.{looked_up, looked_past}
+use Rattle.bd_buffers.proofs.AllWindows.{guessed}
 use Rattle.bd_buffers.proofs.windows.Windows.buffer.Goals as goal
 
-pub returns-in_err-p-clause-found : goal.returns-in_err-p-clause-found
-returns-in_err-p-clause-found c = λ s stands.
+pub returns-in-Some-buffer-clause-found : goal.returns-in-Some-buffer-clause-found
+returns-in-Some-buffer-clause-found c = λ s stands.
     let t = c.args.self.now in
-    let made = c.args.made in
-    let none : look t.homes (home_key made) ≡ None =
-    sym (c.in_err-p.ensures ∙ ap (look c.self.inside.homes) c.home_key.ensures ∙ ap (λ (v : Windows). look v.homes (home_key made)) c.self.view_is) in
-    rw c.from_residual.ensures (sym (find_none (λ (b : Buffer). b.made) made s.buffers (none_home t.homes s.buffers made stands.homes_are none)))
-
-pub returns-in_err-w-clause-found : goal.returns-in_err-w-clause-found
-returns-in_err-w-clause-found c = λ s stands.
-    let t = c.args.self.now in
-    let made = c.args.made in
-    let p = c.in_ok-p.p in
-    let home : look t.homes (home_key made) ≡ Some p =
-    sym (c.in_ok-p.ensures ∙ ap (look c.self.inside.homes) c.home_key.ensures ∙ ap (λ (v : Windows). look v.homes (home_key made)) c.self.view_is) in
-    let missed = sym c.in_err-w.ensures.found in
-    rw c.from_residual-in_err-w.ensures (sym (looked_past t (s.steps + 1) made p s.processes s.buffers stands home missed))
-
-pub returns-clause-found : goal.returns-clause-found
-returns-clause-found c = λ s stands.
-    let t = c.args.self.now in
-    let made = c.args.made in
-    let p = c.in_ok-p.p in
-    let w = c.in_ok-w.w.now in
-    let home : look t.homes (home_key made) ≡ Some p =
-    sym (c.in_ok-p.ensures ∙ ap (look c.self.inside.homes) c.home_key.ensures ∙ ap (λ (v : Windows). look v.homes (home_key made)) c.self.view_is) in
-    let found = sym c.in_ok-w.ensures.found in
-    c.buffer.ensures.found w.window.size w.window.buffers (record { size_is = refl; buffers_are = refl }) ∙ looked_up t (s.steps + 1) made p s.processes s.buffers w stands home found
+    let w = c.in-Some.w.now in
+    let i = c.of.result in
+    let same = c.deref.ensures.value ∙ ap (λ (v : Windows). v.windows) c.self.view_is in
+    let P : List OwnedWindow → Type 0 = λ ws. (i < length ws) × (w ≡ get_or ws i w) in
+    let there : P t.windows = subst P same (ltb-true _ _ (sym c.in-Some.ensures.lookup.0), c.in-Some.ensures.lookup.1) in
+    guessed t (s.steps + 1) i c.args.made s.processes s.buffers w c.in-Some-buffer.b stands there.0 there.1
+    (c.in-Some-buffer.ensures.found w.window.size w.window.buffers (record { size_is = refl; buffers_are = refl }))
