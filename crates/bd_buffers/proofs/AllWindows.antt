@@ -7,7 +7,8 @@ use Rattle.bd_uapi.specs.declared.fault.Cause.{Cause}
 use Rattle.std.proofs.lemmas.Bool.{false≢true, eqb-true}
 use Rattle.std.proofs.lemmas.List.{map_push, map-set, get_or-map, length-map}
 use Rattle.std.proofs.lemmas.List.Elements.{All-head, All-tail, All-filter, All-weaker}
-use Rattle.std.proofs.lemmas.List.Folds.{find-set}
+use Rattle.std.proofs.lemmas.List.Folds.{find_at, find-set}
+use Rattle.std.proofs.lemmas.Option.{slice_get_past, slice_get_read}
 use Rattle.std.proofs.lemmas.List.Sums.{position_or_len_is}
 use Rattle.std.proofs.lemmas.List.Quantifiers.{position-Some}
 use Rattle.std.proofs.Math.Seq.{map-set_same}
@@ -35,6 +36,8 @@ use Rattle.bd_buffers.specs.WindowsStand.{ProcessWindow, seen, window_of, with_b
 use Rattle.bd_buffers.proofs.Homes.{homes_handed, homes_closed, home_finds, found_kept}
 use Rattle.bd_buffers.proofs.Made.{kept as among}
 use Rattle.bd_buffers.proofs.InSpace.{added, added_elsewhere, kept_in, handed_in, others_stay}
+use Rattle.bd_buffers.proofs.Owners.{look_found, no_process}
+use Rattle.bd_buffers.proofs.Standing.{found_of, filtered_of}
 use Rattle.bd_buffers.proofs.Order.{lives_below, process_made, buffer_made, made_kept, made_handed, process_gone}
 
 -- a window that stands for these buffers now
@@ -50,25 +53,6 @@ each_is f bs new same (q ∷ ps) =
     let head : with_buffers f (window_of bs q) ≡ window_of new q = ap (λ xs. record { owner = q.made; size = q.window; buffers = xs }) (same q.made) in
     let rest = each_is f bs new same ps in
     cc
-
-module _ {A B : Type 0} (f : A → B) (r : B → Bool) where
-  find_first : (x : A) (xs : List A) (b : Bool) → r (f x) ≡ b → find r (map f xs) ≡ option_map f (find (λ y. r (f y)) xs)
-      → cond b (Some (f x)) (find r (map f xs)) ≡ option_map f (cond b (Some x) (find (λ y. r (f y)) xs))
-  find_first x xs true e rest = refl
-  find_first x xs false e rest = rest
-
-  find_map : (xs : List A) → find r (map f xs) ≡ option_map f (find (λ y. r (f y)) xs)
-  find_map [] = refl
-  find_map (x ∷ xs) = find_first x xs (r (f x)) refl (find_map xs)
-
-  filter_first : (x : A) (xs : List A) (b : Bool) → map f (filter (λ y. r (f y)) xs) ≡ filter r (map f xs)
-      → map f (cond b (x ∷ filter (λ y. r (f y)) xs) (filter (λ y. r (f y)) xs)) ≡ cond b (f x ∷ filter r (map f xs)) (filter r (map f xs))
-  filter_first x xs true rest = ap (λ ys. f x ∷ ys) rest
-  filter_first x xs false rest = rest
-
-  filter_map_same : (xs : List A) → map f (filter (λ y. r (f y)) xs) ≡ filter r (map f xs)
-  filter_map_same [] = refl
-  filter_map_same (x ∷ xs) = filter_first x xs (r (f x)) (filter_map_same xs)
 
 -- ---- a process more
 
@@ -144,7 +128,7 @@ close_all bs p (q ∷ ps) = close_first bs p q ps (q.made == p) refl (close_all 
 pub closed : (t u : Windows) (bound p : ℕ) (ps : List Process) (bs : List Buffer) → u.windows ≡ filter (λ w. not (is_owned_by p w)) t.windows
     → AreHomes u.homes (filter (λ b. not (b.receiver == p)) bs) → WindowsOf t bound ps bs → WindowsOf u bound (filter (λ q. not (q.made == p)) ps) (filter (λ b. not (b.receiver == p)) bs)
 closed t u bound p ps bs e homes stands = record {
-  windows_are = ap (map seen) e ∙ filter_map_same seen (λ x. not (is_of p x)) t.windows ∙ ap (filter (λ x. not (is_of p x))) stands.windows_are ∙ close_all bs p ps;
+  windows_are = ap (map seen) e ∙ filtered_of seen (λ x. not (is_of p x)) t.windows ∙ ap (filter (λ x. not (is_of p x))) stands.windows_are ∙ close_all bs p ps;
   made = process_gone bound p ps bs stands.made;
   homes_are = homes;
 }
@@ -154,7 +138,7 @@ closed t u bound p ps bs e homes stands = record {
 owned : (t : Windows) (bound p : ℕ) (ps : List Process) (bs : List Buffer) → WindowsOf t bound ps bs
     → option_map seen (find (is_owned_by p) t.windows) ≡ option_map (window_of bs) (process_in ps p)
 owned t bound p ps bs stands =
-    sym (find_map seen (is_of p) t.windows) ∙ ap (find (is_of p)) stands.windows_are ∙ find_map (window_of bs) (is_of p) ps
+    sym (found_of seen (is_of p) t.windows) ∙ ap (find (is_of p)) stands.windows_are ∙ found_of (window_of bs) (is_of p) ps
 
 -- its live buffers were all made before the step
 pub older : (t : Windows) (bound p : ℕ) (ps : List Process) (bs : List Buffer) (w : OwnedWindow) → WindowsOf t bound ps bs → find (is_owned_by p) t.windows ≡ Some w
@@ -210,13 +194,6 @@ pub record IsAt (t : Windows) (p i : ℕ) (w : OwnedWindow) : Type 0 where
   pub at : w ≡ get_or t.windows i w
   pub first : i ≡ position_or_len (is_owned_by p) t.windows
 
-find_at : {A : Type 0} (r : A → Bool) (xs : List A) (i : ℕ) (d : A) → i < length xs → r (get_or xs i d) ≡ true → ((k : ℕ) → k < i → r (get_or xs k d) ≡ false)
-    → find r xs ≡ Some (get_or xs i d)
-find_at r [] i d h passes below = absurd (omega arith)
-find_at r (x ∷ xs) zero d h passes below = ap (λ b. cond b (Some x) (find r xs)) passes
-find_at r (x ∷ xs) (suc i) d h passes below =
-    ap (λ b. cond b (Some x) (find r xs)) (below zero (omega arith)) ∙ find_at r xs i d (omega arith) passes (λ k lt. below (suc k) (omega arith))
-
 pub is_at : (t : Windows) (p i : ℕ) (w : OwnedWindow) → position (is_owned_by p) t.windows ≡ Some i → w ≡ get_or t.windows i w → IsAt t p i w
 is_at t p i w e at =
     let is = position-Some (is_owned_by p) t.windows i w e in
@@ -224,7 +201,7 @@ is_at t p i w e at =
     record {
       within = within;
       owner_is = eqb-true w.owner p (ap (is_owned_by p) at ∙ is.1);
-      found = find_at (is_owned_by p) t.windows i w is.0 is.1 is.2 ∙ ap (λ x. Some x) (sym at);
+      found = sym (look_found (is_owned_by p) t.windows i e) ∙ slice_get_read t.windows (length t.windows) i w refl within at;
       at = at;
       first = sym (position_or_len_is (is_owned_by p) t.windows i w (omega arith) is.2 (λ h. is.1));
     }
@@ -248,13 +225,13 @@ pub can_hold_at : (t : Windows) (p i : ℕ) (w : OwnedWindow) (one_way : Bool) (
     → CanHoldIn (find (is_of p) (map seen t.windows)) one_way size start → CanHoldIn (Some (seen w)) one_way size start
 can_hold_at t p i w one_way size start found can =
     let P : Option ProcessWindow → Type 0 = λ o. CanHoldIn o one_way size start in
-    subst P (find_map seen (is_of p) t.windows ∙ ap (option_map seen) found) can
+    subst P (found_of seen (is_of p) t.windows ∙ ap (option_map seen) found) can
 
 pub can_hold_back : (t : Windows) (p : ℕ) (w : OwnedWindow) (one_way : Bool) (size start : ℕ) → find (is_owned_by p) t.windows ≡ Some w
     → CanHoldIn (Some (seen w)) one_way size start → CanHoldIn (find (is_of p) (map seen t.windows)) one_way size start
 can_hold_back t p w one_way size start found can =
     let P : Option ProcessWindow → Type 0 = λ o. CanHoldIn o one_way size start in
-    subst P (sym (find_map seen (is_of p) t.windows ∙ ap (option_map seen) found)) can
+    subst P (sym (found_of seen (is_of p) t.windows ∙ ap (option_map seen) found)) can
 
 -- ---- a buffer more
 
@@ -286,9 +263,6 @@ set_added (q ∷ ps) (suc i) d bs b x order h own is =
     ap (λ xs. record { owner = q.made; size = q.window; buffers = xs }) (sym (added_elsewhere bs b q.made (λ e. absurd (omega (arith, e, lt, own))))) in
     let rest = set_added ps i d bs b x (pairs_tail (λ (a : Process) (c : Process). a.made < c.made) q ps order) (omega arith) own is in
     cc
-
-no_process : Process
-no_process = record { made = 0; pid = 0; euid = 0; window = 0; spam_detection = false }
 
 lives_at : (ps : List Process) (i : ℕ) (d : Process) (r : ℕ) → i < length ps → (get_or ps i d).made ≡ r → lives_in ps r ≡ true
 lives_at [] i d r h e = absurd (omega arith)
@@ -436,21 +410,12 @@ rising_seen ws w order i j d lt h =
 -- ---- the answers of the table
 
 module _ {A : Type 0} (p : A → Bool) where
-  pass_first : (x : A) (xs : List A) (b : Bool) → (length xs ≤ position_or_len p xs → find p xs ≡ None) → suc (length xs) ≤ cond (not b) (1 + position_or_len p xs) 0
-      → cond b (Some x) (find p xs) ≡ None
-  pass_first x xs true rest h = absurd (omega arith)
-  pass_first x xs false rest h = rest (omega arith)
-
-  past_all : (xs : List A) → length xs ≤ position_or_len p xs → find p xs ≡ None
-  past_all [] h = refl
-  past_all (x ∷ xs) h = pass_first x xs (p x) (past_all xs) h
-
   none_before : (k n : ℕ) (b : Bool) → nat_lt k n ≡ b → cond b (Some k) None ≡ None → n ≤ k
   none_before k n true e f = cc
   none_before k n false e f = search (rules, tests)
 
   pub none_at : (xs : List A) → position p xs ≡ None → find p xs ≡ None
-  none_at xs e = past_all xs (none_before (position_or_len p xs) (length xs) (nat_lt (position_or_len p xs) (length xs)) refl e)
+  none_at xs e = find_at p xs ∙ slice_get_past xs (position_or_len p xs) (none_before (position_or_len p xs) (length xs) (nat_lt (position_or_len p xs) (length xs)) refl e)
 
 pub one_changed : (ws : List OwnedWindow) (p i : ℕ) (w x : OwnedWindow) (f : List Buffer → List Buffer) → AreInOrder ws → position (is_owned_by p) ws ≡ Some i → w ≡ get_or ws i w
     → seen x ≡ with_buffers f (seen w) → map seen (set ws i x) ≡ changed (is_of p) (with_buffers f) (map seen ws)
@@ -470,13 +435,13 @@ one_made ws p i w new f order e at stands = one_changed ws p i w (record w { win
 pub one_missed : (ws : List OwnedWindow) (p : ℕ) (f : List Buffer → List Buffer) → position (is_owned_by p) ws ≡ None → map seen ws ≡ changed (is_of p) (with_buffers f) (map seen ws)
 one_missed ws p f e =
     sym (changed_none (λ (y : ProcessWindow). y.owner) (with_buffers f) p (map seen ws)
-    (none_found (is_of p) (map seen ws) (find_map seen (is_of p) ws ∙ ap (option_map seen) (none_at (is_owned_by p) ws e))))
+    (none_found (is_of p) (map seen ws) (found_of seen (is_of p) ws ∙ ap (option_map seen) (none_at (is_owned_by p) ws e))))
 
 pub can_hold_nowhere : (t : Windows) (p : ℕ) (one_way : Bool) (size start : ℕ) → find (is_owned_by p) t.windows ≡ None
     → CanHoldIn (find (is_of p) (map seen t.windows)) one_way size start → ⊥
 can_hold_nowhere t p one_way size start missed can =
     let P : Option ProcessWindow → Type 0 = λ o. CanHoldIn o one_way size start in
-    subst P (find_map seen (is_of p) t.windows ∙ ap (option_map seen) missed) can
+    subst P (found_of seen (is_of p) t.windows ∙ ap (option_map seen) missed) can
 
 pub fits_whole : (size : ℕ) (bs : List Buffer) (n : ℕ) (r : Result ℕ Cause) → single.IsWindow size bs → IfOk r (λ p. single.IsLeastFree size bs n p) → IfOk r (λ p. n ≤ 4194304)
 fits_whole size bs n (Ok p) is least = let inside = least.room.inside in let small = is.small in omega (arith, inside, small)

@@ -1,9 +1,10 @@
 -- Buffers by where they were made.
-use Rattle.std.proofs.Common.{◌≡◌, ◌≢◌, ℕ, zero, suc, ◌+◌, ◌<◌, Bool, true, false, cond, List, [], ◌∷◌, ◌++◌, get_or, take, refl, ap, sym, ◌∙◌, arith, All, subst, eq-eqb, ne_eqb, inl, inr}
+use Rattle.std.proofs.Common.{◌≡◌, ◌≢◌, ℕ, zero, suc, ◌+◌, ◌<◌, Bool, true, false, cond, List, [], ◌∷◌, ◌++◌, get_or, take, refl, ap, sym, ◌∙◌, arith, All, subst, eq-eqb, ne_eqb}
 use Rattle.std.specs.Prelude.{◌==◌, not, find, filter, Some, None, Option, option_map}
+use Rattle.std.specs.Cmp.{both_ways}
 use Rattle.std.specs.List.{cons_option}
 use Rattle.std.specs.Option.{is_some, option_or, option_to_list}
-use Rattle.std.proofs.lemmas.Bool.{eqb-true, eqb-false, false≢true, cases_Bool}
+use Rattle.std.proofs.lemmas.Bool.{eqb-true, eqb-false}
 use Rattle.std.proofs.lemmas.List.{append-nil}
 use Rattle.std.proofs.lemmas.List.Elements.{All-filter}
 use Rattle.std.proofs.lemmas.List.Folds.{find-append}
@@ -18,26 +19,19 @@ use Rattle.bd_space.specs.Freeing.{is_made_at}
 use Rattle.bd_space.specs.Returns.{buffer_in}
 use Rattle.bd_space.specs.ReadItems.{hand_out}
 use Rattle.bd_keys.proofs.Keys.{word_eq, word_self}
-use Rattle.bd_keys.proofs.Rising.{Rising, distinct}
-use Rattle.bd_keys.proofs.Found.{none_found, find_gone, find_stays}
+use Rattle.bd_keys.proofs.Rising.{Rising, distinct, find_none}
+use Rattle.bd_keys.proofs.Found.{none_found, find_gone, find_stays, tags_more}
 use Rattle.bd_buffers.specs.declared.rows.Row.{Row}
 use Rattle.bd_buffers.specs.declared.record.Record.{Record}
 use Rattle.bd_buffers.specs.Record.{is_record_at, record_in}
 use Rattle.bd_buffers.specs.Homes.{home_key, AreHomes, Forgets, ForgetsRecords}
 use Rattle.bd_buffers.specs.Rows.{live, in_row}
-use Rattle.bd_buffers.proofs.Made.{kept, find_kept, find_beside, find_new, none_of}
-
-word_by : (p q : ℕ) (t b : Bool) → same_word (home_key p) (home_key q) ≡ t → (p == q) ≡ b → t ≡ b
-word_by p q true true e f = refl
-word_by p q true false e f = absurd (eqb-false p q f (ap (λ (k : WordKey). k.word) (word_eq (home_key p) (home_key q) e)))
-word_by p q false true e f =
-    let same = eqb-true p q f in
-    absurd (false≢true (sym e ∙ ap (λ k. same_word (home_key p) (home_key k)) (sym same) ∙ word_self (home_key p)))
-word_by p q false false e f = refl
+use Rattle.bd_buffers.proofs.Made.{kept, find_kept, none_of}
 
 -- the keys of two places are the same where the places are
 key_word : (p q : ℕ) → same_word (home_key p) (home_key q) ≡ (p == q)
-key_word p q = word_by p q (same_word (home_key p) (home_key q)) (p == q) refl refl
+key_word p q = both_ways (same_word (home_key p) (home_key q)) (p == q) (λ e. eq-eqb p q (ap (λ (k : WordKey). k.word) (word_eq (home_key p) (home_key q) e)))
+    (λ e. ap (λ k. same_word (home_key p) (home_key k)) (sym (eqb-true p q e)) ∙ word_self (home_key p))
 
 -- where a buffer is handed out
 module _ (test : Buffer → Bool) (of : Buffer → ℕ) (same : (b : Buffer) → test (hand_out b) ≡ test b) (alike : (b : Buffer) → of (hand_out b) ≡ of b) where
@@ -108,31 +102,19 @@ home_finds homes bs m p rising are home =
 pub homes_noted : (homes left : WordMap ℕ) (bs : List Buffer) (b : Buffer) → AreHomes homes bs → All (λ x. x.made < b.made) bs
     → ((k : WordKey) → look left k ≡ cond (same_word (home_key b.made) k) (Some b.receiver) (look homes k)) → AreHomes left (bs ++ b ∷ [])
 homes_noted homes left bs b are before put = λ m.
-    put (home_key m) ∙ ap (λ t. cond t (Some b.receiver) (look homes (home_key m))) (key_word b.made m)
-    ∙ elim (cases_Bool (b.made == m)) [
-      | inl here ↦ ap (λ t. cond t (Some b.receiver) (look homes (home_key m))) here ∙ sym (ap home_of (find_new (is_made_at m) b bs [] here (earlier m (eqb-true b.made m here))))
-      | inr other ↦
-          ap (λ t. cond t (Some b.receiver) (look homes (home_key m))) other ∙ are m
-          ∙ sym (ap home_of (find_beside (is_made_at m) b bs [] other ∙ ap (find (is_made_at m)) (append-nil bs)))
-    ]
-  where
-    earlier : (m : ℕ) → b.made ≡ m → NoneAt m (bs ++ [])
-    earlier m same =
-        let P : List Buffer → Type 0 = λ xs. NoneAt m xs in
-        subst P (sym (append-nil bs)) (λ k d lt. (let low = before k d lt in ne_eqb (get_or bs k d).made m (λ e. absurd (omega (arith, e, low, same)))))
+    put (home_key m) ∙ ap (λ t. cond t (Some b.receiver) (look homes (home_key m))) (key_word b.made m) ∙ ap (cond (b.made == m) (Some b.receiver)) (are m)
+    ∙ tags_more made_of (λ x. x.receiver) bs b m
+    (find_none made_of b.made bs (λ k d lt. (let low = before k d lt in ne_eqb (get_or bs k d).made b.made (λ e. absurd (omega (arith, e, low))))))
 
 pub homes_forgotten : (homes left : WordMap ℕ) (bs : List Buffer) (m : ℕ) → AreHomes homes bs
     → ((k : WordKey) → look left k ≡ cond (same_word (home_key m) k) None (look homes k)) → AreHomes left (filter (λ b. not (is_made_at m b)) bs)
-homes_forgotten homes left bs m are gone = λ n.
-    gone (home_key n) ∙ ap (λ t. cond t None (look homes (home_key n))) (key_word m n)
-    ∙ elim (cases_Bool (m == n)) [
-      | inl here ↦ (
-          let P : ℕ → Type 0 = λ k. find (is_made_at k) (filter (λ b. not (is_made_at m b)) bs) ≡ None in
-          ap (λ t. cond t None (look homes (home_key n))) here ∙ sym (ap home_of (subst P (eqb-true m n here) (find_gone made_of m bs))))
-      | inr other ↦ (
-          let apart = eqb-false m n other in
-          ap (λ t. cond t None (look homes (home_key n))) other ∙ are n ∙ sym (ap home_of (find_stays made_of m n bs apart)))
-    ]
+homes_forgotten homes left bs m are gone = λ n. gone (home_key n) ∙ ap (λ t. cond t None (look homes (home_key n))) (key_word m n) ∙ at n (m == n) refl
+  where
+    at : (n : ℕ) (t : Bool) → (m == n) ≡ t → cond t None (look homes (home_key n)) ≡ home_of (buffer_in (filter (λ b. not (is_made_at m b)) bs) n)
+    at n true e =
+        let P : ℕ → Type 0 = λ k. find (is_made_at k) (filter (λ b. not (is_made_at m b)) bs) ≡ None in
+        sym (ap home_of (subst P (eqb-true m n e) (find_gone made_of m bs)))
+    at n false e = are n ∙ sym (ap home_of (find_stays made_of m n bs (eqb-false m n e)))
 
 -- one process's buffers go
 pub homes_closed : (homes left : WordMap ℕ) (bs : List Buffer) (p : ℕ) → Rising made_of bs → AreHomes homes bs → Forgets (buffers_of bs p) homes left

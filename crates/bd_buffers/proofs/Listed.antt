@@ -1,6 +1,6 @@
 -- Each live buffer is found by where it begins, through each change.
-use Rattle.std.proofs.Common.{◌≡◌, ℕ, ◌+◌, ◌-◌, ◌/◌, ◌%◌, ◌<◌, Bool, true, false, cond, List, [], ◌∷◌, ◌++◌, get_or, refl, ap, sym, ◌∙◌, arith, All, inl, inr}
-use Rattle.std.specs.Prelude.{◌==◌, find, Some, None, Option, option_map, slice_index}
+use Rattle.std.proofs.Common.{◌≡◌, ℕ, ◌-◌, ◌/◌, ◌%◌, ◌<◌, false, cond, List, [], ◌∷◌, ◌++◌, get_or, refl, ap, sym, ◌∙◌, arith, All, inl, inr}
+use Rattle.std.specs.Prelude.{find, Some, None, Option, option_map, slice_index}
 use Rattle.std.proofs.lemmas.Bool.{eqb-true}
 use Rattle.std.proofs.lemmas.List.Elements.{All-push}
 use Rattle.bd_space.specs.declared.space.Buffer.{Buffer}

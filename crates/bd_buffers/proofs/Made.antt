@@ -1,10 +1,9 @@
 -- Where a search by a key that rises ends, and what is found where elements come or go.
-use Rattle.std.proofs.Common.{◌≡◌, ℕ, ◌<◌, ◌≤◌, Bool, true, false, cond, List, [], ◌∷◌, ◌++◌, length, get_or, refl, ap, sym, ◌∙◌, arith, All, ne_eqb, ltb, inl, inr}
+use Rattle.std.proofs.Common.{◌≡◌, ℕ, ◌<◌, ◌≤◌, Bool, true, false, cond, List, [], ◌∷◌, length, get_or, refl, ap, sym, ◌∙◌, All, ltb}
 use Rattle.std.specs.Prelude.{◌==◌, find, filter, Some, None, Option, option_map, MatchOption, Result, Ok, Err}
 use Rattle.std.specs.List.Sorted.{IsNonDecreasingBy, IsPartitionedBy, IsPartitionPoint, IsBinarySearchResult, IsSearchInRange}
-use Rattle.std.proofs.lemmas.Bool.{cases_lt, eqb-true, ltb-true, ltb-false}
+use Rattle.std.proofs.lemmas.Bool.{eqb-true, ltb-true, ltb-false}
 use Rattle.std.proofs.lemmas.List.Sorted.{IsPartitionedBy-ltb}
-use Rattle.std.proofs.lemmas.List.Elements.{All-head, All-tail}
 use Rattle.std.specs.Ordering.{nat_cmp}
 use Rattle.std.specs.Result.{result_ok}
 use Rattle.bd_keys.proofs.Rising.{Rising, Distinct, find_none, rest_differ, pairs_tail}
@@ -23,19 +22,6 @@ module _ {A : Type 0} (key : A → ℕ) where
       → MatchOption (result_ok r) (All (λ y. (key y == m) ≡ false) xs) (λ i. (i < length xs) × ((d : A) → key (get_or xs i d) ≡ m))
   halved m xs (Ok i) rising found bound = (bound, by_halves key m xs (Ok i) rising found)
   halved m xs (Err i) rising found bound = by_halves key m xs (Err i) rising found
-
--- ---- what is found where an element comes between others
-
-module _ {A : Type 0} (q : A → Bool) (s : A) where
-  pub find_beside : (xs ys : List A) → q s ≡ false → find q (xs ++ s ∷ ys) ≡ find q (xs ++ ys)
-  find_beside [] ys e = ap (λ t. cond t (Some s) (find q ys)) e
-  find_beside (x ∷ xs) ys e = ap (λ o. cond (q x) (Some x) o) (find_beside xs ys e)
-
-  pub find_new : (xs ys : List A) → q s ≡ true → All (λ y. q y ≡ false) (xs ++ ys) → find q (xs ++ s ∷ ys) ≡ Some s
-  find_new [] ys e none = ap (λ t. cond t (Some s) (find q ys)) e
-  find_new (x ∷ xs) ys e none =
-      let P : A → Type 0 = λ y. q y ≡ false in
-      ap (λ t. cond t (Some x) (find q (xs ++ s ∷ ys))) (All-head P x (xs ++ ys) none) ∙ find_new xs ys e (All-tail P x (xs ++ ys) none)
 
 -- ---- what is found where those that aren't kept go
 

@@ -3,7 +3,7 @@ use Rattle.std.proofs.Common.{◌≡◌, ℕ, ◌+◌, ◌/◌, ◌<◌, ◌≤�
 use Rattle.std.specs.List.{between}
 use Rattle.std.specs.Prelude.{slice_index}
 use Rattle.std.proofs.lemmas.List.{length_push, get_or_push}
-use Rattle.std.proofs.lemmas.List.Elements.{All-push}
+use Rattle.std.proofs.lemmas.List.Elements.{All-map, All-push}
 use Rattle.bd_keys.proofs.Lists.{All_remove}
 use Rattle.bd_ground.specs.Tiles.{Tiles, Begins, without, with_span}
 use Rattle.bd_space.specs.declared.space.Buffer.{Buffer}
@@ -24,7 +24,7 @@ use Rattle.bd_buffers.proofs.Places.{IsGiven, given_says}
 use Rattle.bd_buffers.proofs.Kept.{window_push, window_handed, one_way_push, one_way_handed, window_removed, one_way_removed}
 use Rattle.bd_buffers.proofs.Listed.{starts_noted}
 use Rattle.bd_buffers.proofs.Shares.{sums_pushed, sums_handed, sums_without}
-use Rattle.bd_buffers.proofs.Standing.{all_of, of_all, all_stay, in_longer, same_standing, pushed_standing, handed_standing, without_standing}
+use Rattle.bd_buffers.proofs.Standing.{all_of, all_stay, in_longer, same_standing, pushed_standing, handed_standing, without_standing}
 use Rattle.bd_buffers.proofs.Units.{tiles_more, tiles_handed, tiles_less, taken_units, begins_there}
 
 -- what all have the last has
@@ -143,7 +143,7 @@ module _ (r : Record) (rs : List Record) (g left : Ground) (is : Keeps rs g) (ne
       let whole = notes.whole in
       let total = notes.total in
       let pushed = one_way_push old new in
-      let window : IsWindow g.size (old ++ new ∷ []) = window_push g.size old new notes.window (of_all (standing g.memory) (λ b. b.made < r.made) rs newest) sized place in
+      let window : IsWindow g.size (old ++ new ∷ []) = window_push g.size old new notes.window (All-map (λ b. b.made < r.made) (standing g.memory) rs newest) sized place in
       let placed = all_last (IsPlaced g.size) old new window.placed in
       let noted : Notes (old ++ new ∷ []) left = record {
         window = subst (λ n. IsWindow n (old ++ new ∷ [])) (sym size) window;

@@ -107,7 +107,7 @@ order_one f p ws new e order =
 
 -- ---- whose they are
 
-no_process : Process
+pub no_process : Process
 no_process = record { made = 0; pid = 0; euid = 0; window = 0; spam_detection = false }
 
 -- those of processes that were opened before a step

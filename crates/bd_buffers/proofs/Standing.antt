@@ -38,10 +38,14 @@ module _ {A B : Type 0} (f : A → B) where
   pub all_of : (P : B → Type 0) (xs : List A) → All P (map f xs) → All (λ x. P (f x)) xs
   all_of P xs all k d lt = subst P (get_or-map f xs k d (f d) lt) (all k (f d) (omega (arith, length-map xs f, lt)))
 
-  pub of_all : (P : B → Type 0) (xs : List A) → All (λ x. P (f x)) xs → All P (map f xs)
-  of_all P [] all k d lt = absurd (omega arith)
-  of_all P (x ∷ xs) all zero d lt = All-head (λ y. P (f y)) x xs all
-  of_all P (x ∷ xs) all (suc k) d lt = of_all P xs (All-tail (λ y. P (f y)) x xs all) k d (omega arith)
+  filtered_first : (r : B → Bool) (x : A) (xs : List A) (b : Bool) → map f (filter (λ y. r (f y)) xs) ≡ filter r (map f xs)
+      → map f (cond b (x ∷ filter (λ y. r (f y)) xs) (filter (λ y. r (f y)) xs)) ≡ cond b (f x ∷ filter r (map f xs)) (filter r (map f xs))
+  filtered_first r x xs true rest = ap (λ ys. f x ∷ ys) rest
+  filtered_first r x xs false rest = rest
+
+  pub filtered_of : (r : B → Bool) (xs : List A) → map f (filter (λ y. r (f y)) xs) ≡ filter r (map f xs)
+  filtered_of r [] = refl
+  filtered_of r (x ∷ xs) = filtered_first r x xs (r (f x)) (filtered_of r xs)
 
 module _ (m : List ℕ) where
   pub found_standing : (rs : List Record) (n : ℕ) → buffer_in (all_standing m rs) n ≡ option_map (standing m) (record_in rs n)
@@ -66,14 +70,7 @@ module _ (m : List ℕ) where
 
   -- those that weren't made at a place
   pub kept_standing : (n : ℕ) (rs : List Record) → all_standing m (filter (λ r. not (is_record_at n r)) rs) ≡ filter (λ b. not (is_made_at n b)) (all_standing m rs)
-  kept_standing n [] = refl
-  kept_standing n (r ∷ rs) =
-      let rest = kept_standing n rs in
-      elim (r.made == n) as (λ b. all_standing m (cond (not b) (r ∷ filter (λ x. not (is_record_at n x)) rs) (filter (λ x. not (is_record_at n x)) rs))
-      ≡ cond (not b) (standing m r ∷ filter (λ x. not (is_made_at n x)) (all_standing m rs)) (filter (λ x. not (is_made_at n x)) (all_standing m rs))) [
-        | true ↦ rest
-        | false ↦ ap (λ bs. standing m r ∷ bs) rest
-      ]
+  kept_standing n rs = filtered_of (standing m) (λ b. not (is_made_at n b)) rs
 
   -- records stand in the order in which their buffers were made
   pub rising_records : (rs : List Record) → AllPairs (λ a b. a.made < b.made) (all_standing m rs) → AllPairs (λ a b. a.made < b.made) rs

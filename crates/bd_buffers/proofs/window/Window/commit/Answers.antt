@@ -1,4 +1,4 @@
-use Rattle.std.proofs.Common.{sym, ◌∙◌, ◌≡◌, ◌⊎◌, ap, subst, cond, arith, Ok, Some, [], ◌∷◌, ◌++◌, ◌+◌, ◌/◌, All, refl, length, ◌<◌, ◌≤◌, ℕ}
+use Rattle.std.proofs.Common.{sym, ◌∙◌, ◌≡◌, ◌⊎◌, ap, subst, arith, Ok, [], ◌∷◌, ◌++◌, ◌+◌, ◌/◌, All, refl, length, ◌<◌, ◌≤◌, ℕ}
 use Rattle.bd_ground.specs.Tiles.{HasRoom}
 use Rattle.bd_space.specs.declared.space.Buffer.{Buffer}
 use Rattle.bd_space.specs.Windows.{needed, start_for}
