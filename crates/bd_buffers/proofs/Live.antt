@@ -1,5 +1,5 @@
 -- What rows have, and what each change leaves of it.
-use Rattle.std.proofs.Common.{◌≡◌, ℕ, zero, suc, ◌+◌, ◌-◌, ◌<◌, ◌≤◌, Bool, true, false, cond, List, [], ◌∷◌, ◌++◌, length, get_or, set, Option, Some, None, refl, ap, sym, ◌∙◌, subst, arith, All, eq-eqb, ne_eqb}
+use Rattle.std.proofs.Common.{◌≡◌, ℕ, zero, suc, ◌-◌, ◌<◌, ◌≤◌, Bool, true, false, cond, List, [], ◌∷◌, ◌++◌, length, get_or, set, Option, Some, None, refl, ap, sym, ◌∙◌, subst, arith, All, eq-eqb, ne_eqb}
 use Rattle.std.specs.Prelude.{◌==◌, not, find, filter, AllPairs, MatchOption, option_map, unwrap_or}
 use Rattle.std.specs.List.{cons_option, slice_get}
 use Rattle.std.specs.Option.{is_some, option_and_then, option_to_list}
@@ -8,7 +8,6 @@ use Rattle.std.proofs.lemmas.List.{append-nil, length_push}
 use Rattle.std.proofs.lemmas.List.Elements.{All-head, All-tail, All-cons, All-push, All-filter, filter_map-append}
 use Rattle.std.proofs.lemmas.List.Quantifiers.{all_pairs_push}
 use Rattle.std.proofs.lemmas.List.Kept.{AllPairs-filter}
-use Rattle.std.proofs.lemmas.List.Edits.{length-remove}
 use Rattle.std.proofs.lemmas.Option.{slice_get_within, get_or_from_slice_get}
 use Rattle.bd_buffers.specs.declared.record.Record.{Record}
 use Rattle.bd_space.specs.Words.{changed}
@@ -56,12 +55,11 @@ module _ {A : Type 0} where
   pairs_front R (x ∷ xs) ys pairs =
       pairs_cons R x xs (All_front (R x) xs ys (pairs_head R x (xs ++ ys) pairs)) (pairs_front R xs ys (pairs_tail R x (xs ++ ys) pairs))
 
-pub trimmed_rows : (old new : List Row) (n : ℕ) → AllPairs (λ a b. a.made < b.made) old → All own_row old → IsTrimmed old new → ends_empty new ≡ false → n ≡ length (live old) → AreRows new n
-trimmed_rows old new n rising own is ends count = record {
+pub trimmed_rows : (old new : List Row) → AllPairs (λ a b. a.made < b.made) old → All own_row old → IsTrimmed old new → ends_empty new ≡ false → AreRows new
+trimmed_rows old new rising own is ends = record {
   in_order = pairs_front (λ (a : Row) (b : Row). a.made < b.made) new is.gone (subst (λ xs. AllPairs (λ (a : Row) (b : Row). a.made < b.made) xs) is.split rising);
   own = All_front own_row new is.gone (subst (λ xs. All own_row xs) is.split own);
   ends = ends;
-  counted = count ∙ ap length (sym (trimmed_live old new is));
 }
 
 -- none went
@@ -142,27 +140,27 @@ own_of made None b e own = absurd (cc)
 own_of made (Some x) b e own = let same : x ≡ b = cc in ap (λ (y : Record). y.made) (sym same) ∙ own
 
 -- the last row was made before, if all live buffers were
-pub last_below : (rows : List Row) (r : Row) (n count : ℕ) → AreRows rows count → slice_get rows (length rows - 1) ≡ Some r → All (λ b. b.made < n) (live rows) → r.made < n
-last_below rows r n count is last all =
+pub last_below : (rows : List Row) (r : Row) (n : ℕ) → AreRows rows → slice_get rows (length rows - 1) ≡ Some r → All (λ b. b.made < n) (live rows) → r.made < n
+last_below rows r n is last all =
     let full = last_full rows r is.ends last in
     let low = row_has (λ (b : Record). b.made < n) rows (length rows - 1) r full.0 last full.1 all in
     let own = own_of r.made r.buffer full.0 full.1 (All_at own_row rows (length rows - 1) r is.own last) in
     omega (arith, low, own)
 
-below_by : (rows : List Row) (n count : ℕ) (o : Option Row) → AreRows rows count → slice_get rows (length rows - 1) ≡ o → All (λ b. b.made < n) (live rows) → All (λ r. r.made < n) rows
-below_by [] n count o is last all = λ k d h. absurd (omega arith)
-below_by (x ∷ rows) n count None is last all = absurd (some_there (x ∷ rows) (length (x ∷ rows) - 1) (omega arith) last)
+below_by : (rows : List Row) (n : ℕ) (o : Option Row) → AreRows rows → slice_get rows (length rows - 1) ≡ o → All (λ b. b.made < n) (live rows) → All (λ r. r.made < n) rows
+below_by [] n o is last all = λ k d h. absurd (omega arith)
+below_by (x ∷ rows) n None is last all = absurd (some_there (x ∷ rows) (length (x ∷ rows) - 1) (omega arith) last)
   where
     some_there : (xs : List Row) (k : ℕ) → k < length xs → slice_get xs k ≡ None → ⊥
     some_there [] k lt e = omega arith
     some_there (y ∷ xs) zero lt e = cc
     some_there (y ∷ xs) (suc k) lt e = some_there xs k (omega arith) e
-below_by (x ∷ rows) n count (Some r) is last all =
-    newest_all (λ (y : Row). y.made) (x ∷ rows) r n is.in_order last (last_below (x ∷ rows) r n count is last all)
+below_by (x ∷ rows) n (Some r) is last all =
+    newest_all (λ (y : Row). y.made) (x ∷ rows) r n is.in_order last (last_below (x ∷ rows) r n is last all)
 
 -- where all live buffers were made before, all rows were
-pub rows_below : (rows : List Row) (n count : ℕ) → AreRows rows count → All (λ b. b.made < n) (live rows) → All (λ r. r.made < n) rows
-rows_below rows n count is all = below_by rows n count (slice_get rows (length rows - 1)) is refl all
+pub rows_below : (rows : List Row) (n : ℕ) → AreRows rows → All (λ b. b.made < n) (live rows) → All (λ r. r.made < n) rows
+rows_below rows n is all = below_by rows n (slice_get rows (length rows - 1)) is refl all
 
 -- ---- what is found by its place
 
@@ -254,9 +252,6 @@ emptied_live [] i b e = absurd (cc)
 emptied_live (r ∷ rows) zero b e = without_first r.buffer (live rows) b e
 emptied_live (r ∷ rows) (suc i) b e = without_later r.buffer b (live rows) (live (emptied i rows)) (emptied_live rows i b e)
 
-pub one_less : (b : Record) (old new : List Record) → IsWithout b old new → length new + 1 ≡ length old
-one_less b old new is = let gone = length-remove old is.index is.within in omega (arith, gone, ap (λ (bs : List Record). length bs) is.left)
-
 -- ---- where empty rows are left out
 
 first_packed : (r : Row) (rows : List Row) (o : Option Record) → r.buffer ≡ o → live (filter (λ (x : Row). is_some x.buffer) rows) ≡ live rows
@@ -276,23 +271,14 @@ all_packed : (rows : List Row) → All (λ (r : Row). is_some r.buffer ≡ true)
 all_packed [] = λ k d h. absurd (omega arith)
 all_packed (r ∷ rows) = all_first r (filter (λ (x : Row). is_some x.buffer) rows) (is_some r.buffer) refl (all_packed rows)
 
-pub packed_rows : (rows : List Row) (count : ℕ) → AreRows rows count → AreRows (filter (λ (r : Row). is_some r.buffer) rows) count
-packed_rows rows count is = record {
+pub packed_rows : (rows : List Row) → AreRows rows → AreRows (filter (λ (r : Row). is_some r.buffer) rows)
+packed_rows rows is = record {
   in_order = AllPairs-filter (λ (a : Row) (b : Row). a.made < b.made) (λ r. is_some r.buffer) rows is.in_order;
   own = All-filter (λ (r : Row). is_some r.buffer) own_row rows is.own;
   ends = ends_full (filter (λ (r : Row). is_some r.buffer) rows) (all_packed rows);
-  counted = is.counted ∙ ap length (sym (packed_live rows));
 }
 
 -- ---- how many there are
-
-first_length : (o : Option Record) (bs : List Record) (n : ℕ) → length bs ≤ n → length (cons_option o bs) ≤ n + 1
-first_length None bs n le = omega arith
-first_length (Some b) bs n le = omega arith
-
-pub live_length : (rows : List Row) → length (live rows) ≤ length rows
-live_length [] = omega arith
-live_length (r ∷ rows) = let rest = first_length r.buffer (live rows) (length rows) (live_length rows) in omega (arith, rest)
 
 one_first : (o : Option Record) (bs : List Record) (b : Record) → o ≡ Some b → 1 ≤ length (cons_option o bs)
 one_first None bs b e = absurd (cc)
@@ -322,15 +308,13 @@ get_last rows r =
 pub pushed_live : (rows : List Row) (made : ℕ) (b : Record) → live (rows ++ record { made = made; buffer = Some b } ∷ []) ≡ live rows ++ b ∷ []
 pushed_live rows made b = filter_map-append (λ (r : Row). r.buffer) rows (record { made = made; buffer = Some b } ∷ [])
 
-pub pushed_rows : (rows : List Row) (count : ℕ) (b : Record) → AreRows rows count → All (λ x. x.made < b.made) (live rows) → AreRows (rows ++ record { made = b.made; buffer = Some b } ∷ []) (count + 1)
-pushed_rows rows count b is newest =
+pub pushed_rows : (rows : List Row) (b : Record) → AreRows rows → All (λ x. x.made < b.made) (live rows) → AreRows (rows ++ record { made = b.made; buffer = Some b } ∷ [])
+pushed_rows rows b is newest =
     let r : Row = record { made = b.made; buffer = Some b } in
-    let counted = is.counted in
     record {
-      in_order = all_pairs_push (λ (x : Row) (y : Row). x.made < y.made) rows r is.in_order (rows_below rows b.made count is newest);
+      in_order = all_pairs_push (λ (x : Row) (y : Row). x.made < y.made) rows r is.in_order (rows_below rows b.made is newest);
       own = All-push own_row rows r is.own refl;
       ends = ap (λ o. unwrap_or (option_map (λ (x : Row). not (is_some x.buffer)) o) false) (get_last rows r);
-      counted = (let all = ap length (pushed_live rows b.made b) in let more = length_push (live rows) b in omega (arith, all, more, counted));
     }
 
 -- ---- a walk from the end
@@ -397,16 +381,11 @@ handed_live n (r ∷ rows) (suc i) rising own lt at =
     handed_later r.made n r.buffer (live rows) (live (refilled (option_map hand_over) i rows)) (All-head own_row r rows own) (ne_eqb r.made n (λ e. absurd (omega (arith, e, up, is))))
     (handed_live n rows i (pairs_tail (λ (a : Row) (b : Row). a.made < b.made) r rows rising) (All-tail own_row r rows own) (omega arith) at)
 
-pub changed_length : (p : Record → Bool) (bs : List Record) → length (changed p hand_over bs) ≡ length bs
-changed_length p [] = refl
-changed_length p (b ∷ bs) = let rest = changed_length p bs in omega (arith, rest)
-
-pub handed_rows : (n : ℕ) (rows : List Row) (i count : ℕ) → AreRows rows count → i < length rows → ((d : Row) → (get_or rows i d).made ≡ n) → AreRows (refilled (option_map hand_over) i rows) count
-handed_rows n rows i count is lt at = record {
+pub handed_rows : (n : ℕ) (rows : List Row) (i : ℕ) → AreRows rows → i < length rows → ((d : Row) → (get_or rows i d).made ≡ n) → AreRows (refilled (option_map hand_over) i rows)
+handed_rows n rows i is lt at = record {
   in_order = refilled_rising (option_map hand_over) rows i is.in_order;
   own = All_refilled (option_map hand_over) own_row (λ r h. handed_own r.made r.buffer h) rows i is.own;
   ends = handed_ends rows i ∙ is.ends;
-  counted = is.counted ∙ sym (ap length (handed_live n rows i is.in_order is.own lt at) ∙ changed_length (is_record_at n) (live rows));
 }
 
 -- ---- where the buffer made at a place ends

@@ -26,11 +26,10 @@ IsOwn made (Some b) = b.made ≡ made
 abbrev pub ends_empty : List Row → Bool
 ends_empty rows = unwrap_or (option_map (λ r. not (is_some r.buffer)) (slice_get rows (length rows - 1))) false
 
-pub record AreRows (rows : List Row) (count : ℕ) : Type 0 where
+pub record AreRows (rows : List Row) : Type 0 where
   pub in_order : AllPairs (λ a b. a.made < b.made) rows
   pub own : All (λ r. IsOwn r.made r.buffer) rows
   pub ends : ends_empty rows ≡ false
-  pub counted : count ≡ length (live rows)
 
 -- ---- changes
 

@@ -71,17 +71,14 @@ fn trim(rows: &mut Vec<Row>)
     }
 }
 
-// Drops all empty rows, where they are half of all or more: as many ends have paid for the walk.
-fn pack(rows: &mut Vec<Row>, count: usize)
-    requires stand { AreRows rows.old.items count }
-    ensures stand { AreRows rows.new.items count }
+// Drops all empty rows.
+fn pack(rows: &mut Vec<Row>)
+    requires stand { AreRows rows.old.items }
+    ensures stand { AreRows rows.new.items }
     ensures live { live rows.new.items ≡ live rows.old.items }
     ensures len { vec_len rows.new ≤ vec_len rows.old }
     ensures capacity { vec_capacity rows.new ≡ vec_capacity rows.old }
 {
-    if rows.len() - count < count {
-        return;
-    }
     rows.retain(|r| r.buffer.is_some());
 }
 
@@ -116,8 +113,6 @@ fn hand_out_at(rows: &mut Vec<Row>, i: usize)
 #[derive(Drop)]
 pub(crate) struct Rows {
     rows: Vec<Row>,
-    // How many have a buffer.
-    count: usize,
 }
 
 impl Model for Rows {
@@ -128,7 +123,7 @@ impl Model for Rows {
 
     ghost view = { λ t. record { rows = t.rows.items; room = vec_capacity t.rows - vec_len t.rows } };
 
-    ghost invariant = { λ t. AreRows t.rows.items t.count };
+    ghost invariant = { λ t. AreRows t.rows.items };
 }
 
 impl Rows {
@@ -138,15 +133,7 @@ impl Rows {
     {
         Rows {
             rows: Vec::new(alloc),
-            count: 0,
         }
-    }
-
-    /// How many live buffers there are.
-    pub(crate) fn count(&self) -> usize
-        ensures { result ≡ length (live self.now.rows) }
-    {
-        self.count
     }
 
     /// How many rows there are, the empty ones too.
@@ -167,8 +154,9 @@ impl Rows {
         if more <= self.rows.capacity() - self.rows.len() {
             return Ok(());
         }
-        pack(&mut self.rows, self.count);
-        self.rows.reserve(more)
+        pack(&mut self.rows);
+        // As many buffers pay for the walk as come before the next one.
+        self.rows.reserve(more.max(self.rows.len() / 2))
     }
 
     /// Whether all live buffers were made before that place.
@@ -188,7 +176,6 @@ impl Rows {
         ensures live { live self.new.rows ≡ live self.old.rows ++ buffer ∷ [] }
         ensures room { self.old.room ≤ self.new.room + 1 }
     {
-        self.count += 1;
         self.rows.push_reserved(Row {
             made: buffer.made,
             buffer: Some(buffer),
@@ -239,7 +226,6 @@ impl Rows {
         ensures room { self.old.room ≤ self.new.room }
     {
         let buffer = take_from(&mut self.rows, i)?;
-        self.count -= 1;
         trim(&mut self.rows);
         Some(buffer)
     }

@@ -252,7 +252,7 @@ impl Window {
         ensures buffers { self.new.buffers ≡ self.old.buffers }
         ensures room { UsesNothing self.old self.new }
     {
-        if self.buffers.count() == 0 && self.ground.memory.len() > MOST_KEPT {
+        if self.buffers.len() == 0 && self.ground.memory.len() > MOST_KEPT {
             self.ground.clear();
         }
     }

@@ -13,9 +13,8 @@ use Rattle.bd_buffers.proofs.rows.Rows.hand_out.Goals as goal
 pub invariant_of-self : goal.invariant_of-self
 invariant_of-self c =
     let rows = c.self.inside.rows.items in
-    let P : List Row → Type 0 = λ xs. AreRows xs c.self.inside.count in
     let here = rw c.deref.ensures.value at c.in-Some.ensures in
-    subst P (sym c.hand_out_at.ensures.handed) (handed_rows c.args.made rows c.in-Some.i c.self.inside.count c.self.invariant here.0 here.1)
+    subst AreRows (sym c.hand_out_at.ensures.handed) (handed_rows c.args.made rows c.in-Some.i c.self.invariant here.0 here.1)
 
 pub returns-in-Some-clause-live : goal.returns-in-Some-clause-live
 returns-in-Some-clause-live c =

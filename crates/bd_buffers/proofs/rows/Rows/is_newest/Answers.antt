@@ -17,5 +17,5 @@ returns-in-Some c =
     let same : live rows ≡ live c.args.self.now.rows = ap (λ (v : Rows). live v.rows) c.self.view_is in
     let P : List Record → Type 0 = λ xs. All (λ b. b.made < made) xs in (
       λ t. subst P same (live_all (λ n. n < made) rows c.self.invariant.own (newest_all (λ (r : Row). r.made) rows c.in-Some.r.now made c.self.invariant.in_order last (ltb-true _ _ t))),
-      λ all. lt-ltb _ _ (last_below rows c.in-Some.r.now made c.self.inside.count c.self.invariant last (subst P (sym same) all)),
+      λ all. lt-ltb _ _ (last_below rows c.in-Some.r.now made c.self.invariant last (subst P (sym same) all)),
     )

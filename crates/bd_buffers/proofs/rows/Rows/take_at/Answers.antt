@@ -3,36 +3,26 @@ use Rattle.bd_buffers.specs.declared.record.Record.{Record}
 use Rattle.bd_buffers.specs.declared.rows.Row.{Row}
 use Rattle.bd_buffers.specs.declared.rows.Rows.{Rows}
 use Rattle.bd_buffers.specs.Rows.{live, emptied, AreRows, IsTrimmed, IsWithout}
-use Rattle.bd_buffers.proofs.Live.{emptied_live, emptied_own, refilled_rising, refilled_same, one_there, one_less, trimmed_rows, trimmed_live}
+use Rattle.bd_buffers.proofs.Live.{emptied_live, emptied_own, refilled_rising, refilled_same, trimmed_rows, trimmed_live}
 use Rattle.bd_buffers.proofs.rows.Rows.take_at.Goals as goal
 
 pub invariant_of-self : goal.invariant_of-self
 invariant_of-self c =
-    let P : List Row → Type 0 = λ xs. AreRows xs c.self.inside.count in
     let same = c.take_from.ensures.left ∙ refilled_same (λ o. None) c.self.inside.rows.items c.args.i c.in_err-buffer.ensures.taken in
-    subst P (sym same) c.self.invariant
+    subst AreRows (sym same) c.self.invariant
 
 pub returns-in_err-buffer-clause-live : goal.returns-in_err-buffer-clause-live
 returns-in_err-buffer-clause-live c =
     let same = c.take_from.ensures.left ∙ refilled_same (λ o. None) c.self.inside.rows.items c.args.i c.in_err-buffer.ensures.taken in
     rw c.from_residual.ensures (ap live same ∙ ap (λ (v : Rows). live v.rows) c.self.view_is)
 
-pub overflow_sub-self : goal.overflow_sub-self
-overflow_sub-self c =
-    let one = one_there c.self.inside.rows.items c.args.i c.in_ok-buffer.buffer (sym c.in_ok-buffer.ensures.taken) in
-    let counted = c.self.invariant.counted in
-    omega (arith, one, counted)
-
 pub invariant_of-self-2 : goal.invariant_of-self-2
 invariant_of-self-2 c =
     let rows = c.self.inside.rows.items in
     let i = c.args.i in
     let P : List Row → Type 0 = λ xs. IsTrimmed xs c.trim.new.rows.items in
-    let gone = one_less c.in_ok-buffer.buffer (live rows) (live (emptied i rows)) (emptied_live rows i c.in_ok-buffer.buffer (sym c.in_ok-buffer.ensures.taken)) in
-    let counted = c.self.invariant.counted in
-    let left : c.self.inside.count - 1 ≡ length (live (emptied i rows)) = omega (arith, gone, counted) in
-    trimmed_rows (emptied i rows) c.trim.new.rows.items (c.self.inside.count - 1) (refilled_rising (λ o. None) rows i c.self.invariant.in_order) (emptied_own rows i c.self.invariant.own)
-    (subst P c.take_from.ensures.left c.trim.ensures.trimmed) c.trim.ensures.ends left
+    trimmed_rows (emptied i rows) c.trim.new.rows.items (refilled_rising (λ o. None) rows i c.self.invariant.in_order) (emptied_own rows i c.self.invariant.own)
+    (subst P c.take_from.ensures.left c.trim.ensures.trimmed) c.trim.ensures.ends
 
 pub returns-clause-live : goal.returns-clause-live
 returns-clause-live c =
