@@ -9,3 +9,4 @@ pub mod OneWay
 pub mod Seats
 pub mod Marked
 pub mod Members
+pub mod Grouped

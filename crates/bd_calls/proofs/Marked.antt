@@ -1,11 +1,11 @@
 -- The bits of words, the marks of seats, and the word of the ready seats.
-use Rattle.std.proofs.Common.{◌≡◌, ℕ, zero, suc, ◌+◌, ◌-◌, ◌*◌, ◌%◌, ◌^◌, ◌<◌, ◌≤◌, ◌==◌, ◌||◌, Bool, true, false, not, cond, List, Some, None, length, get_or, set, replicate, IfSome, arith, refl, sym, ap, ◌∙◌, eqb-true, eq-eqb, ne_eqb, bit_and, bit_or, pow_pos, pow_mono, w32, ⊎_elim, ◌⊎◌, inl, inr}
-use Rattle.std.proofs.{lemmas.Bool.{eqb-false, cases_lt}, lemmas.List.{get_or-set_same, get_or-set_other}, Math.Nat.{two-pow-succ}}
-use Rattle.std.proofs.lemmas.Nat.Bits.{bit_at_set_same, bit_at_set_other, bit_at_clear_same, bit_at_clear_other, bit_at_and, bit_at_ones, bit_at_ones_above, bit_at_above, bit_at_cat_low, bit_at_cat_high, same_from_bits_below}
-use Rattle.std.specs.{Int.{bit_at, bit_not}, Prelude.{Option}}
-use Rattle.bd_ways.specs.Words.{Thread, Space, is_some_and}
-use Rattle.bd_space.specs.{Histories.{is_ready, ready_below}, ReadItems.{none_due}, Todo.{has_work_in, list_to_read}}
-use Rattle.bd_calls.specs.{declared.seen.Seen.{Seen}, Marked.{may_read, AreMarked}, Ready.{IsSeen}}
+use Rattle.std.proofs.Common.{◌≡◌, ℕ, zero, suc, ◌+◌, ◌-◌, ◌*◌, ◌%◌, ◌^◌, ◌<◌, ◌≤◌, ◌==◌, ◌||◌, Bool, true, false, not, cond, List, Some, None, length, get_or, set, replicate, IfSome, arith, refl, sym, ap, ◌∙◌, eqb-true, eq-eqb, ne_eqb, ◌&&◌, [], ◌∷◌, bit_and, bit_or, pow_pos, pow_mono, w32, ⊎_elim, ◌⊎◌, inl, inr}
+use Rattle.std.proofs.{lemmas.Bool.{eqb-false, cases_lt, false≢true}, lemmas.List.{get_or-set_same, get_or-set_other}, Math.Nat.{two-pow-succ}}
+use Rattle.std.proofs.lemmas.Nat.Bits.{bit_at_set_same, bit_at_set_other, bit_at_clear_same, bit_at_clear_other, bit_at_and, bit_at_not, bit_at-zero, bit_at-lt, bit_at_ones, bit_at_ones_above, bit_at_above, bit_at_cat_low, bit_at_cat_high, same_from_bits_below}
+use Rattle.std.specs.{Int.{bit_at, bit_not}, Option.{is_none}, Prelude.{Option}}
+use Rattle.bd_ways.specs.Words.{Thread, Frame, Space, is_some_and}
+use Rattle.bd_space.specs.{Frames.{innermost_in}, Histories.{is_ready, ready_below}, ReadItems.{none_due}, Todo.{has_work_in, list_to_read}}
+use Rattle.bd_calls.specs.{declared.seen.Seen.{Seen}, Marked.{is_known, may_read, AreKnown, AreMarked}, Ready.{IsSeen}}
 use Rattle.bd_calls.proofs.Seats.{seen_ready}
 
 -- one bit is set, and one is cleared
@@ -64,23 +64,26 @@ none_kept zero i = refl
 none_kept (suc n) zero = refl
 none_kept (suc n) (suc i) = none_kept n i
 
--- what is kept of a seat of the first 32 changes with its mark
-pub marked_with : (seats : List (Option Seen)) (at : ℕ) (seen : Option Seen) (word new : ℕ) → at < length seats → AreMarked seats word
-    → ((i : ℕ) → i < 32 → bit_at new i ≡ cond (i == at) (cond (may_read seen) 1 0) (bit_at word i)) → AreMarked (set seats at seen) new
-marked_with seats at seen word new inside marked bits i low = by (i == at) refl
-  where
-    by : (b : Bool) → (i == at) ≡ b → bit_at new i ≡ cond (may_read (get_or (set seats at seen) i None)) 1 0
-    by true e =
-        bits i low ∙ ap (λ b. cond b (cond (may_read seen) 1 0) (bit_at word i)) e
-        ∙ ap bit_of (sym (ap (λ n. get_or (set seats at seen) n None) (eqb-true i at e) ∙ get_or-set_same seats at seen None inside))
-    by false e =
-        bits i low ∙ ap (λ b. cond b (cond (may_read seen) 1 0) (bit_at word i)) e ∙ marked i low
-        ∙ ap bit_of (sym (get_or-set_other seats at i seen None (eqb-false i at e)))
+-- nothing is kept of any seat, and none is known
+pub none_known : (seats : List (Option Seen)) → ((i : ℕ) → get_or seats i None ≡ None) → AreKnown seats 0
+none_known seats none i low = bit_at-zero i ∙ ap (λ o. one_if (is_known o)) (sym (none i))
 
--- of one behind them it changes without
-pub marked_beside : (seats : List (Option Seen)) (at : ℕ) (seen : Option Seen) (word : ℕ) → 32 ≤ at → AreMarked seats word → AreMarked (set seats at seen) word
-marked_beside seats at seen word behind marked i low =
-    marked i low ∙ ap bit_of (sym (get_or-set_other seats at i seen None (λ e. absurd (omega arith))))
+-- what is kept of a seat changes, and its bit in a word of what is so of the seats
+pub told_with : (f : Option Seen → Bool) (seats : List (Option Seen)) (at : ℕ) (seen : Option Seen) (word new : ℕ) → at < length seats
+    → ((i : ℕ) → i < 32 → bit_at word i ≡ cond (f (get_or seats i None)) 1 0) → ((i : ℕ) → i < 32 → bit_at new i ≡ cond (i == at) (cond (f seen) 1 0) (bit_at word i))
+    → (i : ℕ) → i < 32 → bit_at new i ≡ cond (f (get_or (set seats at seen) i None)) 1 0
+told_with f seats at seen word new inside told bits i low = by (i == at) refl
+  where
+    bit : Option Seen → ℕ
+    bit o = one_if (f o)
+
+    by : (b : Bool) → (i == at) ≡ b → bit_at new i ≡ cond (f (get_or (set seats at seen) i None)) 1 0
+    by true e =
+        bits i low ∙ ap (λ b. cond b (cond (f seen) 1 0) (bit_at word i)) e
+        ∙ ap bit (sym (ap (λ n. get_or (set seats at seen) n None) (eqb-true i at e) ∙ get_or-set_same seats at seen None inside))
+    by false e =
+        bits i low ∙ ap (λ b. cond b (cond (f seen) 1 0) (bit_at word i)) e ∙ told i low
+        ∙ ap bit (sym (get_or-set_other seats at i seen None (eqb-false i at e)))
 
 -- ---- the word of the ready seats
 
@@ -134,14 +137,31 @@ is_ready_word s seats word few fits bits beyond = same_from_bits_below 32 word (
 pub has_31_bits : (word : ℕ) → word < 2 ^ 32 → bit_at word 31 ≡ 0 → word < 2 ^ 31
 has_31_bits word fits last = omega arith
 
--- of whom nothing is on either list it isn't ready
+-- whether a seat that has a thread may have something to read
+may_read_by : (x : Seen) (t : Thread) (b : Bool) → x.thread ≡ Some t → may_read (Some x) ≡ b → (x.own || (x.shared && t.looping)) ≡ b
+may_read_by x t b is may = sym (ap (λ o. is_some_and o (λ u. x.own || (x.shared && u.looping))) is) ∙ may
+
+-- a seat whose thread has nothing to read isn't ready
 pub quiet : (s : Space) (seat : ℕ) (x : Seen) → IsSeen s.threads (has_work_in s.todo) seat x → may_read (Some x) ≡ false → is_ready s seat ≡ false
 unfolding list_to_read
 quiet s seat x seen none = at x.thread refl
   where
     at : (o : Option Thread) → x.thread ≡ o → is_ready s seat ≡ false
     at None e = ap (λ o. is_some_and o (λ t. not (none_due (list_to_read s t)))) (sym seen.thread ∙ e)
-    at (Some t) e = grind (arith, none, seen_ready s.frames s.threads s.todo seat x t e seen)
+    at (Some t) e = grind (arith, may_read_by x t false e none, seen_ready s.frames s.threads s.todo seat x t e seen)
+
+-- where no call is open, one that may have something to read is ready
+loud : (s : Space) (seat : ℕ) (x : Seen) → length s.frames ≡ 0 → IsSeen s.threads (has_work_in s.todo) seat x → may_read (Some x) ≡ true → is_ready s seat ≡ true
+unfolding list_to_read
+loud s seat x calm seen some = at x.thread refl
+  where
+    none_open : (fs : List Frame) (n : ℕ) → length fs ≡ 0 → is_none (innermost_in fs n) ≡ true
+    none_open [] n e = refl
+    none_open (f ∷ fs) n e = absurd (omega (arith, e))
+
+    at : (o : Option Thread) → x.thread ≡ o → is_ready s seat ≡ true
+    at None e = absurd (false≢true (sym (ap (λ o. is_some_and o (λ u. x.own || (x.shared && u.looping))) e) ∙ some))
+    at (Some t) e = grind (arith, none_open s.frames t.seat calm, may_read_by x t true e some, seen_ready s.frames s.threads s.todo seat x t e seen)
 
 -- a seat that isn't marked isn't ready
 pub unmarked : (s : Space) (seats : List (Option Seen)) (word i : ℕ) → i < 32 → AreMarked seats word → IfSome (get_or seats i None) (IsSeen s.threads (has_work_in s.todo) i)
@@ -155,3 +175,42 @@ unmarked s seats word i low marked kept none = at (get_or seats i None) refl kep
     at : (o : Option Seen) → get_or seats i None ≡ o → IfSome o (IsSeen s.threads (has_work_in s.todo) i) → is_ready s i ≡ false
     at None e k = absurd (let m : bit_of None ≡ 0 = sym (ap bit_of e) ∙ sym (marked i low) ∙ none in omega (arith, m))
     at (Some x) e k = quiet s i x k (bit (may_read (Some x)) (sym (ap bit_of e) ∙ sym (marked i low) ∙ none))
+
+-- a seat that is marked is ready, where something is kept of it and no call is open
+pub marked_ready : (s : Space) (seats : List (Option Seen)) (marked known i : ℕ) → i < 32 → length s.frames ≡ 0 → AreKnown seats known → AreMarked seats marked
+    → IfSome (get_or seats i None) (IsSeen s.threads (has_work_in s.todo) i) → bit_at known i ≡ 1 → bit_at marked i ≡ 1 → is_ready s i ≡ true
+marked_ready s seats marked known i low calm are_known are_marked kept is_one is_set = at (get_or seats i None) refl kept
+  where
+    bit : (b : Bool) → one_if b ≡ 1 → b ≡ true
+    bit true e = refl
+    bit false e = absurd (omega (arith, e))
+
+    at : (o : Option Seen) → get_or seats i None ≡ o → IfSome o (IsSeen s.threads (has_work_in s.todo) i) → is_ready s i ≡ true
+    at None e k = absurd (let m : one_if (is_known None) ≡ 1 = sym (ap (λ o. one_if (is_known o)) e) ∙ sym (are_known i low) ∙ is_one in omega (arith, m))
+    at (Some x) e k = loud s i x calm k (bit (may_read (Some x)) (sym (ap bit_of e) ∙ sym (are_marked i low) ∙ is_set))
+
+-- no bit of the first word is missing in the second
+pub none_missing : (first second i : ℕ) → i < 32 → second < 2 ^ 32 → bit_and first (bit_not w32 second) ≡ 0 → bit_at first i ≡ 1 → bit_at second i ≡ 1
+none_missing first second i low fits none is_set =
+    omega (arith, is_set, bit_at-lt second i, bit_at_not w32 second i fits low, sym (bit_at_and first (bit_not w32 second) i) ∙ ap (λ n. bit_at n i) none ∙ bit_at-zero i)
+
+-- a bit that isn't set
+none_at : (word i : ℕ) → (bit_at word i ≡ 1 → ⊥) → bit_at word i ≡ 0
+none_at word i apart = omega (arith, bit_at-lt word i, apart)
+
+-- where no call is open, the marked seats are the ready ones, if something is kept of each
+pub calm_bits : (word count : ℕ) → count ≤ 31 → word < 2 ^ 32 → ((i : ℕ) → bit_at word i ≡ 1 → i < count) → word < 2 ^ 31
+calm_bits word count few fits only = has_31_bits word fits (none_at word 31 (λ is_set. absurd (omega (arith, few, only 31 is_set))))
+
+pub calm_word : (s : Space) (seats : List (Option Seen)) (marked known word count : ℕ) → count ≤ 31 → word < 2 ^ 32
+    → ((i : ℕ) → i < count → bit_at word i ≡ bit_at marked i) → ((i : ℕ) → bit_at word i ≡ 1 → i < count) → AreKnown seats known → AreMarked seats marked
+    → ((i : ℕ) → IfSome (get_or seats i None) (IsSeen s.threads (has_work_in s.todo) i)) → length s.frames ≡ 0 → ((i : ℕ) → i < 32 → bit_at word i ≡ 1 → bit_at known i ≡ 1)
+    → word ≡ ready_below s count
+calm_word s seats marked known word count few fits kept only are_known are_marked seen calm within =
+    is_ready_word s count word few fits (λ i l. at i l (bit_at word i) refl (bit_at-lt word i)) (λ i low out. none_at word i (λ is_set. absurd (omega (arith, out, only i is_set))))
+  where
+    at : (i : ℕ) → i < count → (n : ℕ) → bit_at word i ≡ n → n < 2 → bit_at word i ≡ cond (is_ready s i) 1 0
+    at i l zero e lt = e ∙ ap one_if (sym (unmarked s seats marked i (omega (arith, l, few)) are_marked (seen i) (sym (kept i l) ∙ e)))
+    at i l (suc zero) e lt =
+        e ∙ ap one_if (sym (marked_ready s seats marked known i (omega (arith, l, few)) calm are_known are_marked (seen i) (within i (omega (arith, l, few)) e) (sym (kept i l) ∙ e)))
+    at i l (suc (suc n)) e lt = absurd (omega (arith, lt))

@@ -7,3 +7,4 @@ pub mod Told
 pub mod Closing
 pub mod Stacked
 pub mod Marked
+pub mod Grouped

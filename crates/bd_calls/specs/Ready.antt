@@ -1,5 +1,5 @@
 -- What is kept of the seats from step to step.
-use Rattle.std.specs.Prelude.{ℕ, ◌≡◌, ◌==◌, Bool, false, List, Option, None, Some, if◌then◌else◌, fold, get_or, IfSome}
+use Rattle.std.specs.Prelude.{ℕ, ◌≡◌, ◌==◌, Bool, List, Option, None, if◌then◌else◌, fold, get_or, IfSome}
 use Rattle.bd_ways.specs.Words.{Thread, Work, TodoList, OfThread, OfProcess, is_some_and}
 use Rattle.bd_space.specs.{Seats.{thread_in}, Todo.{same_list, has_work_in}}
 use Rattle.bd_calls.specs.{declared.seen.Seen.{Seen}, declared.ready.ReadySeats.{ReadySeats}}
@@ -7,11 +7,6 @@ use Rattle.bd_calls.specs.{declared.seen.Seen.{Seen}, declared.ready.ReadySeats.
 -- what is kept of a seat, if anything is
 abbrev pub seen_at : ReadySeats → ℕ → Option Seen
 seen_at r seat = get_or r.seats.items seat None
-
--- what is kept is of a thread of this process
-abbrev pub is_member : ℕ → Option Seen → Bool
-is_member process None = false
-is_member process (Some x) = is_some_and x.thread (λ t. t.process == process)
 
 -- what is kept of a seat, once something is on this process's list or nothing is
 abbrev pub with_shared : ℕ → Bool → Seen → Seen

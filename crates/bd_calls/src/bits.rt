@@ -1,7 +1,7 @@
 //! Words of 32 bits, bit by bit.
 #![tactic(auto)]
 
-ghost use Rattle.std.specs.Prelude.{ℕ, ◌≡◌, ◌≢◌, ◌==◌, ◌&&◌, ◌<◌, if◌then◌else◌};
+ghost use Rattle.std.specs.Prelude.{ℕ, ◌≡◌, ◌≢◌, ◌==◌, ◌&&◌, ◌<◌, true, if◌then◌else◌};
 ghost use Rattle.std.specs.Int.{bit_at};
 
 /// The place of the lowest bit that is set.
@@ -47,4 +47,12 @@ pub(crate) fn low(word: u32, count: u32) -> u32
     ensures no_more { (i : ℕ) → bit_at result i ≡ 1 → i < count }
 {
     word & ((1 << count) - 1)
+}
+
+/// Whether the other word has each bit that the first one has.
+#[inline(always)]
+pub(crate) fn is_within(word: u32, other: u32) -> bool
+    ensures { result ≡ true → (i : ℕ) → i < 32 → bit_at word i ≡ 1 → bit_at other i ≡ 1 }
+{
+    word & !other == 0
 }

@@ -3,6 +3,7 @@
 
 mod bits;
 mod frame;
+mod groups;
 mod marks;
 mod ready;
 mod seen;

@@ -10,6 +10,7 @@ ghost use Rattle.bd_todo.specs.Stands as todo_table;
 ghost use Rattle.bd_threads.specs.Listed.{listed};
 ghost use Rattle.bd_calls.specs.Ready as spec;
 ghost use Rattle.bd_calls.specs.Marked as marked;
+ghost use Rattle.bd_calls.specs.Grouped as grouped;
 
 use bd_space::{Thread, TodoList};
 use bd_threads::ThreadTable;
@@ -22,6 +23,22 @@ pub(crate) struct Seen {
     // Whether there is anything on the thread's own list, and on its process's.
     pub(crate) own: bool,
     pub(crate) shared: bool,
+}
+
+impl Seen {
+    /// What is kept of the seat, once there is anything on this process's list or nothing.
+    #[inline(always)]
+    pub(crate) fn with_shared(self, process: u64, has: bool) -> Seen
+        ensures { result ≡ spec.with_shared process has self }
+    {
+        match self.thread {
+            Some(thread) if thread.process == process => Seen {
+                shared: has,
+                ..self
+            },
+            _ => self,
+        }
+    }
 }
 
 /// Looks at a seat.
@@ -45,7 +62,7 @@ pub(crate) fn look_at(threads: &ThreadTable, todo: &WorkTable, seat: u32) -> See
 /// Whether what is kept is of a thread of this process. Lent, since it is asked of each seat.
 #[inline(always)]
 pub(crate) fn is_member(kept: &Option<Seen>, process: u64) -> bool
-    ensures { result ≡ spec.is_member process kept.now }
+    ensures { result ≡ grouped.is_member process kept.now }
 {
     match kept {
         Some(seen) => match &seen.thread {
@@ -56,13 +73,24 @@ pub(crate) fn is_member(kept: &Option<Seen>, process: u64) -> bool
     }
 }
 
-/// Whether the seat may have something to read, by what is kept of it.
+/// Whether something is kept of the seat.
+#[inline(always)]
+pub(crate) fn is_known(kept: Option<Seen>) -> bool
+    ensures { result ≡ marked.is_known kept }
+{
+    kept.is_some()
+}
+
+/// Whether the seat has something to read, by what is kept of it, unless it is in a call; it may have where nothing is kept.
 #[inline(always)]
 pub(crate) fn may_read(kept: Option<Seen>) -> bool
     ensures { result ≡ marked.may_read kept }
 {
     match kept {
         None => true,
-        Some(seen) => seen.own || seen.shared,
+        Some(seen) => match seen.thread {
+            Some(thread) => seen.own || (seen.shared && thread.looping),
+            None => false,
+        },
     }
 }

@@ -16,6 +16,7 @@ use bd_space::{TodoList, Work};
 use bd_threads::ThreadTable;
 use bd_todo::WorkTable;
 use bd_turns::TurnTable;
+use bd_uapi::MOST_SEATS;
 use std::alloc::{AllocError, Global};
 
 // Room is made for so many of each at once, so that most steps find it there.
@@ -175,7 +176,7 @@ impl CallTable {
         ensures told { KeepsTold self.old self.new }
         ensures few { ReachesFew 0 self.old self.new }
     {
-        let seats = vec![in alloc; None; seats as usize]?;
+        let seats = vec![in alloc; None; seats.min(MOST_SEATS) as usize]?;
         self.ready = ReadySeats::of(seats);
         Ok(())
     }

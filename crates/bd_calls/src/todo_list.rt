@@ -11,7 +11,7 @@ ghost use Rattle.bd_space.specs.Notices as notices;
 ghost use Rattle.bd_frames.specs.Stands as frame_table;
 ghost use Rattle.bd_todo.specs.TodoList as replies;
 
-use crate::bits::{low, lowest, with_bit, without};
+use crate::bits::{is_within, low, lowest, with_bit, without};
 use crate::seen::{Seen, look_at};
 use crate::table::CallTable;
 use bd_frames::FrameTable;
@@ -100,8 +100,9 @@ impl CallTable {
         }
     }
 
-    /// The ready seats below this one, bit i for seat i.
-    pub fn ready_below(&self, seats: u32) -> u32
+    // The ready seats below this one: each that is marked is asked.
+    #[inline(never)]
+    fn ask_marked(&self, seats: u32) -> u32
         requires { seats ≤ most_seats }
         ensures ready { Tells (StandsFor self.now) result (λ s. ready_below s seats) }
         ensures bits { result < 2 ^ most_seats }
@@ -114,6 +115,21 @@ impl CallTable {
             ready = with_bit(ready, seat, self.is_ready(seat));
         }
         ready
+    }
+
+    /// The ready seats below this one, bit i for seat i.
+    #[inline(always)]
+    pub fn ready_below(&self, seats: u32) -> u32
+        requires { seats ≤ most_seats }
+        ensures ready { Tells (StandsFor self.now) result (λ s. ready_below s seats) }
+        ensures bits { result < 2 ^ most_seats }
+    {
+        let marked = low(self.ready.marked, seats);
+        // A marked seat of which something is kept is ready unless it is in a call, and nobody is in one where none is open.
+        if self.frames.count() == 0 && is_within(marked, self.ready.known) {
+            return marked;
+        }
+        self.ask_marked(seats)
     }
 
     /// A work item comes onto a list, made at this place.

@@ -1,5 +1,4 @@
-use Rattle.std.proofs.Common.{◌≡◌, ℕ, ◌-◌, ◌*◌, ◌%◌, ◌^◌, ◌<◌, sym, ap, ◌∙◌, arith, bit_and, pow_pos, pow_mono, suc}
-use Rattle.std.proofs.Math.Nat.{two-pow-succ}
+use Rattle.std.proofs.Common.{ℕ, ◌-◌, sym, ap, ◌∙◌, arith, bit_and, pow_pos}
 use Rattle.std.specs.Int.{bit_at}
 use Rattle.bd_calls.proofs.Marked.{low_kept, low_only, one_up}
 use Rattle.bd_calls.proofs.bits.low.Goals as goal

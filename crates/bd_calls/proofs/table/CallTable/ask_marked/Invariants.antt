@@ -2,7 +2,7 @@ use Rattle.std.proofs.Common.{ℕ, ◌≡◌, ◌<◌, ◌≤◌}
 use Rattle.std.specs.{Int.{bit_at}, Prelude.{if◌then◌else◌}}
 use Rattle.bd_space.specs.{Space.{Space}, Histories.{is_ready}}
 use Rattle.bd_calls.specs.Stands.{StandsFor}
-use Rattle.bd_calls.proofs.table.CallTable.ready_below.Given as goal
+use Rattle.bd_calls.proofs.table.CallTable.ask_marked.Given as goal
 
 abbrev pub invariant-marked : goal.invariant-marked
 invariant-marked l = record {
