@@ -2,18 +2,17 @@
 
 ghost use Rattle.std.specs.Prelude.{◌≡◌, ◌<◌, [], true, Some, IfOk, IfErr, IfSome, OnErr, MatchOption};
 ghost use Rattle.bd_ways.specs.Words as words;
-ghost use Rattle.bd_space.specs.{declared.step.Request.{Request}, declared.step.Request.TheVariants.{Write}};
+ghost use Rattle.bd_space.specs.declared.step.Request.{Request};
 ghost use Rattle.bd_space.specs.{Space.{Space}, Histories.{HasPlace, is_at_limit}};
 ghost use Rattle.bd_space.specs.Runs as runs;
 ghost use Rattle.bd_space.specs.Runs.{HasRun, HasEntry, IsAtLimit, answered};
 ghost use Rattle.bd_spelling.specs.Spelling.{SpellsCommand};
 ghost use Rattle.bd_step.specs.{Plain.{IsBrief, IsGot}, declared.answer.Brief.TheVariants.{Got}};
-ghost use Rattle.bd_engine.specs.{Refusals.{FullOnly, MemoryOnly}, Writing.{IsTurnedAway, IsWrite, IsOneStep}};
+ghost use Rattle.bd_engine.specs.{Refusals.{FullOnly, MemoryOnly}, Writing.{IsWrite, IsOneStep}};
 
 use crate::wide::WideEngine;
 use bd_space::{Answer, Entry, Request, Step, StepAnswer};
 use bd_step::{Brief, Plain, StepError};
-use bd_uapi::Fault;
 
 /// What a run answered, and the places of its steps: from `from` up to and without `to`.
 #[derive(Drop, Debug)]
@@ -118,34 +117,6 @@ impl WideEngine {
                     to: self.len(),
                 })
             }
-        }
-    }
-
-    /// Runs a write: its commands, each one step. As `run_in` does of such a request, but its bytes are lent.
-    #[inline(always)]
-    pub fn write(
-        &mut self,
-        seat: u32,
-        stream: &[u8],
-        area: &[u8],
-        told: &mut Answer,
-    ) -> Result<Span, StepError>
-        requires { seat < self.old.seats }
-        ensures ok { IfOk result (λ span. HasRun self.old self.new seat (Write stream.now area.now) told.new span.from span.to) }
-        ensures err { OnErr result (self.new ≡ self.old) }
-        ensures away { IfErr result (IsTurnedAway self.old seat (Write stream.now area.now)) }
-    {
-        let from = self.len();
-        if stream.len() > 4096 {
-            *told = Answer::Refused(Fault::StreamTooLong);
-            return Ok(Span { from, to: from });
-        }
-        match self.run_commands(seat, stream, area, told) {
-            Err(why) => Err(why),
-            Ok(()) => Ok(Span {
-                from,
-                to: self.len(),
-            }),
         }
     }
 

@@ -5,6 +5,7 @@ ghost use Rattle.bd_uapi.specs.Limits.{most_seats};
 ghost use Rattle.bd_space.specs.Histories as histories;
 ghost use Rattle.bd_space.specs.Histories.{most_steps};
 ghost use Rattle.bd_space.specs.Steps as steps;
+ghost use Rattle.bd_space.specs.Writes.{parcel_for};
 ghost use Rattle.bd_spelling.specs.Spelling.{SpellsCommand};
 ghost use Rattle.bd_step.specs.Plain.{IsBrief};
 ghost use Rattle.bd_engine.specs.Refusals.{FullOnly, MemoryOnly, IsLiveSeats, IsLiveSeatFault};
@@ -12,11 +13,12 @@ ghost use Rattle.bd_step.specs.declared.step_error.StepError.TheVariants.{NoMemo
 
 use crate::entering::Entering;
 use crate::live::Live;
+use crate::parcel::ParcelRoom;
 use crate::tables::HasTables;
-use bd_space::{Entry, Step, StepAnswer};
+use bd_space::{Entry, Parcel, Step, StepAnswer};
 use bd_spelling::{Entries, Log, Record, command_of};
 use bd_step::{Brief, StepError, Tables};
-use bd_uapi::{Fault, Note};
+use bd_uapi::{Command, Fault, Note};
 use std::alloc::{AllocError, Global};
 use std::marker::Model;
 use std::mem::replace;
@@ -31,6 +33,8 @@ pub struct WideEngine {
     live: Live,
     // Room for a write's notes, which mostly has none: it is kept from write to write, so that each asks for no memory.
     notes: Vec<(u32, Note)>,
+    // Memory for a command's parcel.
+    room: ParcelRoom,
 }
 
 impl Model for WideEngine {
@@ -51,6 +55,7 @@ impl Drop for WideEngine {
             entries: _,
             live: _,
             notes: _,
+            room: _,
         } = self;
     }
 }
@@ -80,6 +85,7 @@ impl WideEngine {
                 },
                 live,
                 notes: Vec::new(alloc),
+                room: ParcelRoom::new(alloc),
             }),
             Err(fault) => Err(fault),
         }
@@ -159,6 +165,33 @@ impl WideEngine {
         self.notes = notes;
     }
 
+    // The parcel of a command, if it lies inside the area.
+    #[inline(always)]
+    pub(crate) fn cut_parcel(
+        &mut self,
+        area: &[u8],
+        command: &Command,
+    ) -> Result<Option<Parcel>, AllocError>
+        ensures same { self.new ≡ self.old }
+        ensures parcel { IfOk result (λ p. p ≡ parcel_for area.now command.now) }
+    {
+        self.room.parcel_for(area, command)
+    }
+
+    // Keeps the memory of the parcel of a step that was made, if it has one.
+    #[inline(always)]
+    pub(crate) fn keep_parcel(&mut self, step: Step)
+        ensures { self.new ≡ self.old }
+    {
+        if let Step::Command {
+            command: _,
+            parcel: Some(parcel),
+        } = step
+        {
+            self.room.keep(parcel);
+        }
+    }
+
     /// The history of all steps, which the engine gives up.
     pub fn into_record(self) -> Record
         ensures seats { result.seats ≡ self.seats }
@@ -169,6 +202,7 @@ impl WideEngine {
             entries,
             live,
             notes: _,
+            room: _,
         } = self;
         Record {
             seats: live.seats,

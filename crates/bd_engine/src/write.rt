@@ -14,7 +14,7 @@ ghost use Rattle.bd_engine.specs.Writing.{HasCome, IsSame, IsAt, IsAfter, IsCour
 ghost use Rattle.bd_engine.specs.Writing.{Ends, course_of, course_or, ended, is_unnoted};
 ghost use Rattle.bd_space.specs.declared.step.Answer.TheVariants.{Wrote};
 
-use crate::parcel::parcel_for;
+use crate::run::Span;
 use crate::wide::WideEngine;
 use bd_codec::read_command;
 use bd_space::{Answer, Entry, Notes, Step, StepAnswer, Stop};
@@ -240,13 +240,15 @@ impl WideEngine {
         if progress.reserve().is_err() {
             return Err(StepError::NoMemory);
         }
-        let Ok(parcel) = parcel_for(self.alloc(), area, &command) else {
+        let Ok(parcel) = self.cut_parcel(area, &command) else {
             return Err(StepError::NoMemory);
         };
         let step = Step::Command { command, parcel };
         let answer = StepAnswer::Exited;
         let mut entry = Entry { seat, step, answer };
-        self.step_in_place(&mut entry, spelled)
+        let made = self.step_in_place(&mut entry, spelled);
+        self.keep_parcel(entry.step);
+        made
     }
 
     // Runs the next command of a write, which these bytes spell.
@@ -308,29 +310,36 @@ impl WideEngine {
         Ok(Going::On)
     }
 
-    /// Runs the commands of a stream of at most 4096 bytes, whose parcels are cut from the area.
+    /// Runs a write: its commands, each one step, whose parcels are cut from the area. As `run_in` does of such a request, but its
+    /// bytes are lent.
     #[inline(always)]
-    pub(crate) fn run_commands(
+    pub fn write(
         &mut self,
         seat: u32,
         stream: &[u8],
         area: &[u8],
         told: &mut Answer,
-    ) -> Result<(), StepError>
-        requires seat { seat < self.old.seats }
-        requires short { length stream.now ≤ 4096 }
-        ensures ok { OnOk result (HasRun self.old self.new seat (Write stream.now area.now) told.new
-            (length self.old.entries) (length self.new.entries)) }
+    ) -> Result<Span, StepError>
+        requires { seat < self.old.seats }
+        ensures ok { IfOk result (λ span. HasRun self.old self.new seat (Write stream.now area.now) told.new span.from span.to) }
         ensures err { OnErr result (self.new ≡ self.old) }
         ensures away { IfErr result (IsTurnedAway self.old seat (Write stream.now area.now)) }
     {
+        let from = self.len();
+        if stream.len() > 4096 {
+            *told = Answer::Refused(Fault::StreamTooLong);
+            return Ok(Span { from, to: from });
+        }
         let mut progress = Progress::new(self.take_notes());
         match self.run_each(seat, stream, area, &mut progress) {
             Err(why) => Err(why),
             Ok(going) => {
                 progress.tell(going, told);
                 self.keep_notes(progress.notes);
-                Ok(())
+                Ok(Span {
+                    from,
+                    to: self.len(),
+                })
             }
         }
     }
