@@ -1,17 +1,17 @@
 -- One parcel more or less.
-use Rattle.std.proofs.Common.{◌≡◌, ℕ, ◌+◌, ◌<◌, ◌≤◌, Bool, true, false, List, [], ◌∷◌, ◌++◌, length, drop, get_or, Option, Some, None, refl, sym, ap, ◌∙◌, arith}
-use Rattle.std.specs.Prelude.{◌==◌, swap_remove, find, option_map}
+use Rattle.std.proofs.Common.{◌≡◌, ℕ, ◌+◌, ◌<◌, ◌≤◌, Bool, true, false, List, [], ◌∷◌, ◌++◌, length, drop, get_or, Option, Some, None, zero, suc, refl, sym, ap, ◌∙◌, arith}
+use Rattle.std.specs.Prelude.{◌==◌, remove, find, option_map}
 use Rattle.std.proofs.lemmas.Bool.{eqb-true, eq-eqb}
 use Rattle.std.proofs.lemmas.List.{drop_more, drop_all}
-use Rattle.std.proofs.lemmas.List.Sums.{sum_by-append, sum_by-swap_remove}
+use Rattle.std.proofs.lemmas.List.Sums.{sum_by-append, sum_by-remove}
 use Rattle.bd_tickets.specs.declared.tickets.Parcel.{Parcel}
 use Rattle.bd_tickets.specs.Held.{count_of, held_in, descriptors_of}
 
 pub held_more : (xs : List Parcel) (p : Parcel) (d : ℕ) → held_in (xs ++ p ∷ []) d ≡ held_in xs d + count_of d p.descriptors.items
 held_more xs p d = let all = sum_by-append (λ (q : Parcel). count_of d q.descriptors.items) xs (p ∷ []) in omega (arith, all)
 
-pub held_less : (xs : List Parcel) (i : ℕ) (p : Parcel) (d : ℕ) → i < length xs → held_in xs d ≡ held_in (swap_remove xs i p) d + count_of d (get_or xs i p).descriptors.items
-held_less xs i p d lt = sym (sum_by-swap_remove (λ (q : Parcel). count_of d q.descriptors.items) xs i p lt)
+pub held_less : (xs : List Parcel) (i : ℕ) (p : Parcel) (d : ℕ) → i < length xs → held_in xs d ≡ held_in (remove xs i) d + count_of d (get_or xs i p).descriptors.items
+held_less xs i p d lt = sym (sum_by-remove (λ (q : Parcel). count_of d q.descriptors.items) xs i p lt)
 
 -- the search from a place on
 pub is_here : (xs : List Parcel) (i step : ℕ) (p : Parcel) (total : Option (List ℕ)) → i < length xs → (get_or xs i p).step ≡ step → descriptors_of step (drop i xs) ≡ total
@@ -36,9 +36,14 @@ is_later xs i step p total lt isnt so_far =
 pub is_nowhere : (xs : List Parcel) (i step : ℕ) (total : Option (List ℕ)) → length xs ≤ i → descriptors_of step (drop i xs) ≡ total → None ≡ total
 is_nowhere xs i step total le so_far = sym (ap (descriptors_of step) (drop_all i xs le)) ∙ so_far
 
--- ---- which parcel is found once one more is there
+-- ---- which parcel is found once one more is there, or one less
 
 module _ (q : Parcel → Bool) where
+  find_left : (xs : List Parcel) (i : ℕ) (p : Parcel) → i < length xs → q (get_or xs i p) ≡ false → find q (remove xs i) ≡ find q xs
+  find_left [] i p lt f = absurd (omega (arith, lt))
+  find_left (x ∷ xs) zero p lt f = grind (arith, f)
+  find_left (x ∷ xs) (suc i) p lt f = let rest = find_left xs i p (omega (arith, lt)) f in grind (arith, rest)
+
   find_last : (xs : List Parcel) (p : Parcel) → q p ≡ true → find q xs ≡ None → find q (xs ++ p ∷ []) ≡ Some p
   find_last [] p t n = grind (arith, t)
   find_last (x ∷ xs) p t n = grind (arith, find_last xs p t, n)
@@ -55,6 +60,14 @@ pub found_more : (xs ys : List Parcel) (p : Parcel) → ys ≡ xs ++ p ∷ [] �
 found_more xs ys p e none =
     ap (descriptors_of p.step) e
     ∙ ap (option_map (λ r. r.descriptors.items)) (find_last (λ r. r.step == p.step) xs p (eq-eqb p.step p.step refl) (none_is (find (λ r. r.step == p.step) xs) none))
+
+pub others_left : (xs ys : List Parcel) (i step s : ℕ) (p : Parcel) → ys ≡ remove xs i → i < length xs → (get_or xs i p).step ≡ step → (s ≡ step → ⊥) → descriptors_of s ys ≡ descriptors_of s xs
+others_left xs ys i step s p e lt is isnt =
+    ap (descriptors_of s) e ∙ ap (option_map (λ r. r.descriptors.items)) (find_left (λ r. r.step == s) xs i p lt (differs ((get_or xs i p).step == s) refl))
+  where
+    differs : (b : Bool) → ((get_or xs i p).step == s) ≡ b → ((get_or xs i p).step == s) ≡ false
+    differs true f = absurd (isnt (sym (sym is ∙ eqb-true (get_or xs i p).step s f)))
+    differs false f = f
 
 pub others_more : (xs ys : List Parcel) (p : Parcel) (s : ℕ) → ys ≡ xs ++ p ∷ [] → (s ≡ p.step → ⊥) → descriptors_of s ys ≡ descriptors_of s xs
 others_more xs ys p s e isnt =
