@@ -26,8 +26,8 @@
  *
  * The library can't see the following, which is yours to keep. If you don't, nothing is promised:
  *
- *  - Each handle is empty when you make it: HULLPIPPIN_NO_DRIVER, HULLPIPPIN_NO_SEAT, HULLPIPPIN_NO_LIVE, or all zeros, as a
- *    static one is. From then on it has what a function of this header left there. You don't copy it, and neither read nor
+ *  - Each handle is empty when you make it: HULLPIPPIN_NO_DRIVER, HULLPIPPIN_NO_SEAT, HULLPIPPIN_NO_LIVE, HULLPIPPIN_NO_TICKETS,
+ *    or all zeros, as a static one is. From then on it has what a function of this header left there. You don't copy it, and neither read nor
  *    change its pointer.
  *  - No pointer is wild: each leads to what it says, of the size that you tell. NULL is wild, but for (NULL, 0), which are no
  *    bytes or no numbers: so no handle is at NULL, nor an answer or a size that a call fills.
@@ -68,15 +68,22 @@ typedef struct {
     void *at;
 } hullpippin_live;
 
+/* Descriptors that are on their way beside an engine. */
+typedef struct {
+    void *at;
+} hullpippin_tickets;
+
 /* Handles that have nothing, to begin with or to assign. A static handle without another value begins as one. */
 #ifdef __cplusplus
 #define HULLPIPPIN_NO_DRIVER hullpippin_driver{ NULL }
 #define HULLPIPPIN_NO_SEAT hullpippin_seat{ NULL }
 #define HULLPIPPIN_NO_LIVE hullpippin_live{ NULL }
+#define HULLPIPPIN_NO_TICKETS hullpippin_tickets{ NULL }
 #else
 #define HULLPIPPIN_NO_DRIVER ((hullpippin_driver){ NULL })
 #define HULLPIPPIN_NO_SEAT ((hullpippin_seat){ NULL })
 #define HULLPIPPIN_NO_LIVE ((hullpippin_live){ NULL })
+#define HULLPIPPIN_NO_TICKETS ((hullpippin_tickets){ NULL })
 #endif
 
 /* Where a buffer of no bytes may be, one of no numbers, and one of no places; NULL does as well. */
@@ -92,7 +99,7 @@ enum {
     HULLPIPPIN_DONE = 0,            /* it was made */
     HULLPIPPIN_NO_MEMORY = 1,       /* malloc gave none for the call's own copies; it may be made again */
     HULLPIPPIN_WAITING = 2,         /* a request of this seat is handed over: collect or withdraw it first; live_open, live_attach:
-                                       the seat waits (hullpippin_bridge_wait) */
+                                       the seat waits (hullpippin_bridge_wait); tickets_put: a parcel of that step is on its way */
     HULLPIPPIN_NOT_WAITING = 3,     /* no request of this seat is handed over */
     HULLPIPPIN_TAKEN = 4,           /* serve: another seat has the engine */
     HULLPIPPIN_NO_SUCH_REQUEST = 5, /* post: there is no such kind of request; post, set_spam, live_set_spam: `on` is
@@ -936,6 +943,39 @@ uint32_t hullpippin_lay_out(const uint8_t *data, size_t data_size, const uint8_t
 /* Writes a fix-up into a parcel of `size` bytes, as it comes from the engine, whose receiver sees its first byte at `base`: an address, or -1
    for each descriptor. False where it is none, or doesn't lie within the parcel, and then nothing is written. */
 bool hullpippin_put_fixup(const hullpippin_fixup *fixup, uint8_t *parcel, size_t size, uint64_t base);
+
+/*
+ * Tickets: the descriptors that go with parcels beside an engine, which knows of none. Whoever stands between an engine and processes has
+ * them on their way here, each by a number of its own, as that of the descriptor itself. They are named by the place of the step that sends
+ * their parcel: how many steps there were before it (hullpippin_live_len), which is `from` of its answer, what a look tells of a buffer, and
+ * what hullpippin_live_ended tells as that ends.
+ *
+ *     uint64_t step = hullpippin_live_len(&live);
+ *     if (hullpippin_tickets_put(&tickets, step, numbers, count)) .. the parcel isn't sent, and all are still the caller's ..
+ *     if (hullpippin_live_command(&live, ..) || answer.stop)
+ *         .. hullpippin_tickets_take(&tickets, step, ..), and they are closed ..
+ *
+ * Proved is that none is lost, and none handed out twice: each number is on its way so often as it was put and wasn't taken; and that
+ * a parcel's are those that it was put with, whatever else comes and goes. What is handed out the caller sends on or closes.
+ */
+
+/* Makes tickets: none is on its way. `tickets` is empty, and stays so unless the answer is DONE. Also NO_MEMORY, MISUSE. */
+uint32_t hullpippin_tickets_new(hullpippin_tickets *tickets);
+
+/* A parcel with these numbers goes on its way, by the step at a place. Also MISUSE; WAITING, where one of that step is on its way; and
+   NO_MEMORY: in each case none of them is on its way by that, and all others are as before. */
+uint32_t hullpippin_tickets_put(hullpippin_tickets *tickets, uint64_t step, const uint32_t *numbers, size_t count);
+
+/* Tells in `count` how many go with the parcel of a step, and hands them out to `out` if all of them fit in `room` numbers: they are on their
+   way no more then. Else they stay, and `out` stays as it was. False where no parcel of that step is on its way. Takes no memory. */
+bool hullpippin_tickets_take(hullpippin_tickets *tickets, uint64_t step, uint32_t *out, size_t room, size_t *count);
+
+/* Tells the place of a step whose parcel is on its way, of all of them any one: to take all, as at an end, take each until there is none.
+   False where none is on its way. Takes no memory, and some time where few are. */
+bool hullpippin_tickets_some_step(hullpippin_tickets *tickets, uint64_t *step);
+
+/* Lets go of tickets, and empties the handle: whatever is still on its way is nobody's then. Does nothing where it is empty. */
+void hullpippin_free_tickets(hullpippin_tickets *tickets);
 
 /* Room for every text, and the NUL behind it. */
 #define HULLPIPPIN_TEXT_ROOM 64

@@ -15,3 +15,4 @@ pub mod Laying
 pub mod Settling
 pub mod Certifying
 pub mod Judged
+pub mod HandingOut

@@ -1,6 +1,7 @@
--- What is behind a handle: a driver, the history of one that has ended, a seat, or a live engine.
+-- What is behind a handle: a driver, the history of one that has ended, a seat, a live engine, or descriptors that are on their way.
 use Rattle.std.specs.Prelude.{◌≡◌, ◌⊎◌, Option, Some, None, ⊤, IsSomeAnd}
 use Rattle.bd_spelling.specs.declared.record.Record.{Record}
+use Rattle.bd_tickets.specs.declared.shelves.Shelves.{Shelves}
 use Rattle.bd_c.specs.declared.held.Held.{Held}
 use Rattle.bd_c.specs.declared.held.Held.TheVariants as held
 use Rattle.bd_c.specs.declared.host.Host.{Host}
@@ -41,6 +42,10 @@ abbrev pub live_of : Held → Option OwnedLive
 live_of (held.Live x) = Some x
 live_of _ = None
 
+abbrev pub tickets_of : Held → Option Shelves
+tickets_of (held.Tickets x) = Some x
+tickets_of _ = None
+
 abbrev pub IsDriver : Option Held → Type 0
 IsDriver h = Of driver_of h (λ x. ⊤)
 
@@ -53,3 +58,6 @@ IsSeat h = Of seat_of h (λ x. ⊤)
 
 abbrev pub IsLive : Option Held → Type 0
 IsLive h = Of live_of h (λ x. ⊤)
+
+abbrev pub IsTickets : Option Held → Type 0
+IsTickets h = Of tickets_of h (λ x. ⊤)

@@ -26,3 +26,4 @@ pub mod Spelled
 pub mod Walks
 pub mod SpaceTold
 pub mod Texts
+pub mod Tickets

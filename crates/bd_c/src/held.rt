@@ -3,6 +3,7 @@ use crate::host::Host;
 use crate::live::OwnedLive;
 use crate::seat::OwnedSeat;
 use bd_spelling::Record;
+use bd_tickets::Shelves;
 
 /// What is behind a handle: a handle begins with nothing, and goes from one of these to another by the calls made with it.
 #[derive(Drop)]
@@ -15,6 +16,8 @@ pub enum Held {
     History(Record),
     /// A live engine, with its latest entry.
     Live(OwnedLive),
+    /// The descriptors of parcels that are on their way.
+    Tickets(Shelves),
     /// Nothing yet, or no longer.
     Nothing,
 }

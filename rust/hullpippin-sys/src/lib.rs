@@ -49,6 +49,19 @@ impl hullpippin_live {
     pub const NONE: hullpippin_live = hullpippin_live { at: core::ptr::null_mut() };
 }
 
+/// Descriptors that are on their way beside an engine.
+#[repr(C)]
+#[derive(Debug)]
+pub struct hullpippin_tickets {
+    /// What the library keeps.
+    pub at: *mut core::ffi::c_void,
+}
+
+impl hullpippin_tickets {
+    /// A handle that has nothing.
+    pub const NONE: hullpippin_tickets = hullpippin_tickets { at: core::ptr::null_mut() };
+}
+
 /// It was made.
 pub const HULLPIPPIN_DONE: u32 = 0;
 
@@ -56,7 +69,7 @@ pub const HULLPIPPIN_DONE: u32 = 0;
 pub const HULLPIPPIN_NO_MEMORY: u32 = 1;
 
 /// A request of this seat is handed over: collect or withdraw it first; live_open, live_attach: the seat waits
-/// (hullpippin_bridge_wait).
+/// (hullpippin_bridge_wait); tickets_put: a parcel of that step is on its way.
 pub const HULLPIPPIN_WAITING: u32 = 2;
 
 /// No request of this seat is handed over.
@@ -1345,4 +1358,37 @@ extern "C" {
     /// at `base`: an address, or -1 for each descriptor. False where it is none, or doesn't lie within the parcel, and
     /// then nothing is written.
     pub fn hullpippin_put_fixup(fixup: *const hullpippin_fixup, parcel: *mut u8, size: usize, base: u64) -> bool;
+
+    /// Makes tickets: none is on its way. `tickets` is empty, and stays so unless the answer is DONE. Also NO_MEMORY,
+    /// MISUSE.
+    pub fn hullpippin_tickets_new(tickets: *mut hullpippin_tickets) -> u32;
+
+    /// A parcel with these numbers goes on its way, by the step at a place. Also MISUSE; WAITING, where one of that
+    /// step is on its way; and NO_MEMORY: in each case none of them is on its way by that, and all others are as
+    /// before.
+    pub fn hullpippin_tickets_put(
+        tickets: *mut hullpippin_tickets,
+        step: u64,
+        numbers: *const u32,
+        count: usize,
+    ) -> u32;
+
+    /// Tells in `count` how many go with the parcel of a step, and hands them out to `out` if all of them fit in `room`
+    /// numbers: they are on their way no more then. Else they stay, and `out` stays as it was. False where no parcel of
+    /// that step is on its way. Takes no memory.
+    pub fn hullpippin_tickets_take(
+        tickets: *mut hullpippin_tickets,
+        step: u64,
+        out: *mut u32,
+        room: usize,
+        count: *mut usize,
+    ) -> bool;
+
+    /// Tells the place of a step whose parcel is on its way, of all of them any one: to take all, as at an end, take
+    /// each until there is none. False where none is on its way. Takes no memory, and some time where few are.
+    pub fn hullpippin_tickets_some_step(tickets: *mut hullpippin_tickets, step: *mut u64) -> bool;
+
+    /// Lets go of tickets, and empties the handle: whatever is still on its way is nobody's then. Does nothing where it
+    /// is empty.
+    pub fn hullpippin_free_tickets(tickets: *mut hullpippin_tickets);
 }

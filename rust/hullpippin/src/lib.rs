@@ -45,6 +45,7 @@ mod refusals;
 mod returns;
 mod space;
 mod status;
+mod tickets;
 mod waiting;
 
 pub use answers::{Answer, Outcome, Request, Stop, Why};
@@ -58,6 +59,7 @@ pub use refusals::{Cause, Fault, Note};
 pub use returns::{Return, Returns};
 pub use space::{Buffer, DeathNotification, Frame, Object, ObjectId, Phase, Process, Thread, TodoList, Work};
 pub use status::{Error, Kept};
+pub use tickets::Tickets;
 
 /// The version of the library that is linked: its three numbers.
 ///
