@@ -121,9 +121,7 @@ static int send_call(struct run *run, bool is_reply, const struct target *target
     int error = engine_call(run->engine, run->thread->seat, target, &command, sizeof command, parcel->data, parcel->data_size,
                             parcel->offsets, parcel->offsets_size);
     if (error || run->engine->answer.stop != HULLPIPPIN_AT_END)
-        parcel_refuse(parcel);
-    else if (parcel->ticket)
-        ticket_keep(&run->engine->tickets, parcel->ticket);
+        parcel_refuse(parcel, run->thread->process);
     return error;
 }
 

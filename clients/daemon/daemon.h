@@ -402,40 +402,26 @@ void journal_note_seat(struct journal *journal, hullpippin_live *live, uint32_t 
 /* Puts the number of entries right, and closes the file. Whether it has all of them. */
 bool journal_close(struct journal *journal, hullpippin_live *live);
 
-/* --- tickets.c: descriptors of parcels that nobody has read yet. --- */
-
-#define TICKET_LISTS 1024
-
-/* What goes with a parcel that has a trailer. */
-struct ticket {
-    struct list in_list;
-    struct account *account; /* the sender's, also once it has ended */
-    uint64_t step;           /* the place in the history of the step that sends the parcel */
-    hullpippin_fixup *fixups; /* what is to be put right where the parcel lands */
-    size_t fixup_count;
-    uint32_t count;
-    int fds[];
+/* What is to be put right where a parcel lands. */
+struct fixups {
+    hullpippin_fixup *all; /* NULL: nothing */
+    size_t count;
 };
 
-/* Those of the parcels that are on their way. */
-struct tickets {
-    struct list lists[TICKET_LISTS]; /* by the place of the step that sends the parcel */
-    uint32_t count;
-};
+/* --- tickets.c: descriptors of parcels that are on their way. --- */
 
-void tickets_begin(struct tickets *tickets);
-void tickets_end(struct tickets *tickets);
-/* A ticket for a parcel of the engine's next step. It takes the descriptors over; NULL where there is no memory, or they are over the
-   sender's share. */
-struct ticket *ticket_new(struct process *process, const int *fds, uint32_t count, const hullpippin_fixup *fixups, size_t fixup_count);
-/* Closes the descriptors. Nothing may be given to it. */
-void ticket_free(struct ticket *ticket);
-/* Keeps a ticket whose step was made, until its parcel is read or has ended. */
-void ticket_keep(struct tickets *tickets, struct ticket *ticket);
-/* The ticket of a step, which is the caller's from then on, or NULL. */
-struct ticket *ticket_take(struct tickets *tickets, uint64_t step);
-/* Frees that of a step, if there is one, whose buffer has ended. */
-void ticket_end(struct tickets *tickets, uint64_t step);
+struct engine;
+
+/* The parcel that the engine's next step sends goes on its way with these, in its sender's share. False where there is no memory, or they are
+   over the share: then they are still the caller's. */
+bool tickets_put(struct process *process, uint64_t step, const int *fds, uint32_t count);
+/* Those of a step's parcel, which are the caller's from then on: how many. They are in their sender's share still. */
+uint32_t tickets_take(struct engine *engine, uint64_t step, int fds[DESCRIPTORS_MAX]);
+/* Closes such, and gives the share back. The account is NULL where it isn't known any more. */
+void tickets_close(struct account *account, int *fds, uint32_t count);
+/* Takes those of a step's parcel, if there are any, and closes them. */
+void tickets_end(struct engine *engine, uint64_t step);
+void tickets_end_all(struct engine *engine);
 
 /* --- sent.c: what the engine keeps for who sends. --- */
 
@@ -449,21 +435,25 @@ struct sent_all {
     struct sent **heads; /* by the place of the step that has sent it */
     struct sent *spare;  /* in no use */
     uint32_t spare_count;
+    uint32_t wrapped;    /* how many have a trailer, and weren't read yet */
     uint64_t *ended;     /* room for the buffers that a step ends */
 };
 
 struct parcel;
-struct engine;
 
 bool sent_all_begin(struct sent_all *all);
 void sent_all_end(struct sent_all *all);
-/* For a parcel that the engine is to get; NULL where there is no memory, or it is over the sender's share. */
-struct sent *sent_new(struct process *process, const struct parcel *parcel);
+/* For a parcel that the engine is to get, whose fix-ups it takes over; NULL where there is no memory, or it is over the sender's share. */
+struct sent *sent_new(struct process *process, struct parcel *parcel);
 void sent_free(struct sent_all *all, struct sent *sent);
 /* The process sends nothing more. What it has sent counts in its share until its buffers end. */
 void purse_leave(struct process *process);
 /* The engine has it from this step on, until its buffer ends. */
 void sent_keep(struct sent_all *all, struct sent *sent, uint64_t step);
+/* In whose share a step's parcel is; NULL where its buffer doesn't live. */
+struct account *sent_payer(const struct sent_all *all, uint64_t step);
+/* The parcel of a step is read: what is to be put right of it, which is the caller's to free. */
+struct fixups sent_unwrap(struct sent_all *all, uint64_t step);
 /* Lets go of those, and of their descriptors, whose buffers have ended by the latest step. */
 void sent_see_ended(struct engine *engine);
 /* Whether the thread may be owed one thing more, in the share of its process; and once it is owed nothing. */
@@ -550,7 +540,7 @@ struct engine {
     pthread_t thread;
     bool has_thread;
     struct inbox inbox;
-    struct tickets tickets;
+    hullpippin_tickets tickets;
     struct sent_all sent;
     struct workbench *bench;  /* objects.h */
     void *reserve;            /* NULL: it is in use, or there is none */
@@ -859,8 +849,9 @@ void state_tell(struct engine *engine, uint64_t from, uint64_t within, struct st
 
 /* Descriptors of the latest parcel that the thread has read, and where their numbers go in the window. */
 struct landing {
-    struct ticket *ticket; /* NULL: they have gone to the client, or there are none */
-    uint64_t parcel;       /* where the client sees it */
+    bool is_on_way;  /* they haven't gone to the client yet */
+    uint64_t step;   /* that has sent the parcel */
+    uint64_t parcel; /* where the client sees it */
     uint32_t count;
     uint64_t places[DESCRIPTORS_MAX];
     bool is_wide[DESCRIPTORS_MAX]; /* the number fills 8 bytes: an FD object's, not an FDA object's */
@@ -979,8 +970,11 @@ struct parcel {
     uid_t euid;      /* the caller's; it is the first to be set */
     bool tells_euid; /* .. which isn't what the engine tells */
     bool may_have_descriptors; /* this one as well: its receiver takes them */
-    struct ticket *ticket; /* NULL: it has no trailer */
-    uint32_t fd_count;     /* of a bad one, which has no ticket */
+    bool is_wrapped; /* it has a trailer */
+    uint64_t step;   /* .. and this step sends it */
+    struct fixups fixups;
+    bool is_on_way;  /* its descriptors are (tickets.c) */
+    uint32_t fd_count;
     int fds[DESCRIPTORS_MAX];
 };
 
@@ -992,7 +986,7 @@ void parcel_fetch(struct parcel *parcel, struct thread *thread, const struct bin
 /* The engine gets nothing of it, for which it refuses the command. */
 void parcel_lose(struct parcel *parcel);
 /* Closes the descriptors of one that the engine has refused. */
-void parcel_refuse(struct parcel *parcel);
+void parcel_refuse(struct parcel *parcel, struct process *process);
 /* Brings the parcel that the engine's latest read got into the window, and its record to how the client sees it. */
 void parcel_deliver(struct thread *thread, struct binder_transaction_data *record);
 /* Writes the numbers that the landing's descriptors have for the client. */

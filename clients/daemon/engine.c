@@ -47,8 +47,8 @@ struct engine *engine_new(struct daemon *daemon, struct device *device)
         list_begin(&engine->by_pid[i]);
     if (!ring_make(&engine->ring, engine->device, daemon->seats))
         log_line("%s: there is no memory for the latest steps, and nobody can look at them", engine->device);
-    tickets_begin(&engine->tickets);
-    if (engine->bench && reserve_take(engine) && sent_all_begin(&engine->sent) && make_seats(engine, daemon->seats)
+    if (engine->bench && reserve_take(engine) && sent_all_begin(&engine->sent)
+        && hullpippin_tickets_new(&engine->tickets) == HULLPIPPIN_DONE && make_seats(engine, daemon->seats)
         && hullpippin_bridge_new(engine->seats, &engine->live) == HULLPIPPIN_DONE && begin_journal(engine, device) && engine_start(engine))
         return engine;
     engine_free(engine);
@@ -80,7 +80,7 @@ void engine_free(struct engine *engine)
     engine_stop(engine);
     if (engine->live.at)
         engine_conclude(engine);
-    tickets_end(&engine->tickets);
+    tickets_end_all(engine);
     sent_all_end(&engine->sent);
     reserve_free(engine);
     ring_free(&engine->ring);

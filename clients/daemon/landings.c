@@ -5,15 +5,16 @@
  */
 #include "objects.h"
 
+#include <stdlib.h>
 #include <string.h>
 
-/* The parcel that the engine's latest read got, on the engine's bench: false where it has no trailer. Without a ticket no parcel on its
-   way has one, so that large ones needn't come there. */
+/* The parcel that the engine's latest read got, on the engine's bench: false where it has no trailer. Where no parcel on its way has one,
+   large ones needn't come there. */
 static bool unwrap(struct engine *engine, struct objects *objects, struct trailer *trailer)
 {
     uint64_t size = engine->answer.data, offsets_size = engine->answer.offsets;
     struct workbench *bench = engine->bench;
-    if (!engine->tickets.count || size > sizeof bench->bytes || offsets_size > sizeof bench->known)
+    if (!engine->sent.wrapped || size > sizeof bench->bytes || offsets_size > sizeof bench->known)
         return false;
     hullpippin_live_bytes(&engine->live, HULLPIPPIN_DATA, bench->bytes, size);
     hullpippin_live_bytes(&engine->live, HULLPIPPIN_OFFSETS, (uint8_t *)bench->known, offsets_size);
@@ -26,7 +27,7 @@ static bool unwrap(struct engine *engine, struct objects *objects, struct traile
 /* Puts so many of the next descriptors on the landing, which lie at a place of the window. */
 static void land(struct landing *landing, uint64_t place, uint64_t count, bool is_wide)
 {
-    for (uint64_t i = 0; i < count && landing->count < landing->ticket->count; i++) {
+    for (uint64_t i = 0; i < count && landing->count < DESCRIPTORS_MAX; i++) {
         landing->is_wide[landing->count] = is_wide;
         landing->places[landing->count++] = place + i * sizeof(uint32_t);
     }
@@ -34,9 +35,10 @@ static void land(struct landing *landing, uint64_t place, uint64_t count, bool i
 
 /* Puts right what the library has said as the parcel was sent: pointers lead to where the client sees the buffers, and until it has told
    its number there, no descriptor is where one is to be. The landing is NULL where there is no memory for it. */
-static void put_right(const struct ticket *ticket, struct landing *landing, uint8_t *parcel, size_t size, uint64_t place, uint64_t base)
+static void put_right(const struct fixups *fixups, struct landing *landing, uint8_t *parcel, size_t size, uint64_t place, uint64_t base)
 {
-    for (const hullpippin_fixup *fixup = ticket->fixups; fixup < ticket->fixups + ticket->fixup_count; fixup++) {
+    for (size_t i = 0; i < fixups->count; i++) {
+        const hullpippin_fixup *fixup = &fixups->all[i];
         if (!hullpippin_put_fixup(fixup, parcel, size, base + place) || !landing)
             continue;
         if (fixup->kind == HULLPIPPIN_FIXUP_DESCRIPTOR)
@@ -64,15 +66,16 @@ static void deliver_wrapped(struct thread *thread, struct binder_transaction_dat
     struct engine *engine = thread->process->engine;
     struct window *window = &thread->process->window;
     const size_t size = engine->answer.data - sizeof *trailer;
-    struct ticket *ticket = ticket_take(&engine->tickets, (uint64_t)trailer->step_high << 32 | trailer->step);
-    struct landing *landing = ticket && ticket->count ? thread_landing(thread) : NULL;
+    const uint64_t step = (uint64_t)trailer->step_high << 32 | trailer->step;
+    const struct fixups fixups = sent_unwrap(&engine->sent, step);
+    struct landing *landing = trailer->descriptor_count ? thread_landing(thread) : NULL;
     record->sender_euid = trailer->euid;
     if (landing)
-        *landing = (struct landing){.ticket = ticket, .parcel = record->data.ptr.buffer};
-    if (ticket)
-        put_right(ticket, landing, objects->bytes, size, place, window->base);
+        *landing = (struct landing){.is_on_way = true, .step = step, .parcel = record->data.ptr.buffer};
+    put_right(&fixups, landing, objects->bytes, size, place, window->base);
+    free(fixups.all);
     if (!landing)
-        ticket_free(ticket);
+        tickets_end(engine, step);
     memcpy(window->at + place, objects->bytes, size);
     record->data_size = trailer->data_size;
     record->offsets_size = trailer->offsets_size;

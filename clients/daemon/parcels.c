@@ -12,6 +12,7 @@
  */
 #include "objects.h"
 
+#include <stdlib.h>
 #include <string.h>
 #include <unistd.h>
 
@@ -55,9 +56,10 @@ static void take_descriptors(struct parcel *parcel, int *fds, size_t count)
 /* The parcel goes on as it is laid out, with zeros in what is left of the buffers' room, and the trailer behind it. */
 static void wrap(struct parcel *parcel, const struct objects *objects, struct workbench *bench, const hullpippin_layout *layout)
 {
-    const uint64_t step = parcel->ticket->step, size = round8(objects->data_size) + round8(objects->offsets_size) + objects->extra_size;
-    struct trailer trailer = {objects->data_size, objects->offsets_size, objects->extra_size, (uint32_t)step, parcel->ticket->count,
-                              parcel->euid, (uint32_t)(step >> 32), TRAILER_MARK};
+    const uint64_t size = round8(objects->data_size) + round8(objects->offsets_size) + objects->extra_size;
+    struct trailer trailer = {objects->data_size, objects->offsets_size, objects->extra_size, (uint32_t)parcel->step, parcel->fd_count,
+                              parcel->euid, (uint32_t)(parcel->step >> 32), TRAILER_MARK};
+    parcel->is_wrapped = true;
     memset(bench->laid + layout->size, 0, size - layout->size);
     memcpy(bench->laid + size, &trailer, sizeof trailer);
     parcel->data = bench->laid;
@@ -124,7 +126,8 @@ void parcel_begin(struct parcel *parcel)
     parcel->is_lost = parcel->tells_euid = parcel->may_have_descriptors = false;
     parcel->data = parcel->offsets = NULL;
     parcel->data_size = parcel->offsets_size = 0;
-    parcel->ticket = NULL;
+    parcel->is_wrapped = parcel->is_on_way = false;
+    parcel->fixups = (struct fixups){NULL, 0};
     parcel->fd_count = 0;
 }
 
@@ -135,6 +138,24 @@ static bool lay_out(const struct objects *objects, struct workbench *bench, uint
                               objects->extra_size, descriptors, bench->laid, PAGE_AREA, bench->known, KNOWN_MAX, bench->fixups, FIXUPS_MAX,
                               layout)
            == HULLPIPPIN_DONE;
+}
+
+static bool keep_fixups(struct parcel *parcel, const hullpippin_fixup *fixups, size_t count)
+{
+    parcel->fixups.all = count ? malloc(count * sizeof *fixups) : NULL;
+    if (!parcel->fixups.all)
+        return !count;
+    parcel->fixups.count = count;
+    memcpy(parcel->fixups.all, fixups, count * sizeof *fixups);
+    return true;
+}
+
+/* The parcel's descriptors go on their way by the engine's next step. */
+static bool send_descriptors(struct parcel *parcel, struct process *process)
+{
+    parcel->step = hullpippin_live_len(&process->engine->live);
+    parcel->is_on_way = parcel->fd_count && tickets_put(process, parcel->step, parcel->fds, parcel->fd_count);
+    return parcel->is_on_way || !parcel->fd_count;
 }
 
 /*
@@ -165,15 +186,16 @@ void parcel_fetch(struct parcel *parcel, struct thread *thread, const struct bin
         return;
     }
     take_descriptors(parcel, fds, layout.taken);
-    parcel->ticket = ticket_new(thread->process, parcel->fds, parcel->fd_count, bench->fixups, layout.fixups);
-    if (!parcel->ticket)
+    if (!keep_fixups(parcel, bench->fixups, layout.fixups) || !send_descriptors(parcel, thread->process))
         return parcel_lose(parcel);
-    parcel->fd_count = 0;
     wrap(parcel, &objects, bench, &layout);
 }
 
-void parcel_refuse(struct parcel *parcel)
+void parcel_refuse(struct parcel *parcel, struct process *process)
 {
-    descriptors_close(parcel->fds, parcel->fd_count);
-    ticket_free(parcel->ticket);
+    if (parcel->is_on_way)
+        tickets_close(process->account, parcel->fds, tickets_take(process->engine, parcel->step, parcel->fds));
+    else
+        descriptors_close(parcel->fds, parcel->fd_count);
+    free(parcel->fixups.all);
 }

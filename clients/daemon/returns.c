@@ -237,15 +237,19 @@ static bool wants_looper(const struct thread *thread)
 static void send_landing(struct thread *thread)
 {
     struct landing *landing = thread->landing;
-    if (!landing || !landing->ticket)
+    struct engine *engine = thread->process->engine;
+    int fds[DESCRIPTORS_MAX];
+    if (!landing || !landing->is_on_way)
         return;
+    landing->is_on_way = false; /* the places stay, for the numbers */
+    struct account *account = sent_payer(&engine->sent, landing->step);
+    uint32_t count = tickets_take(engine, landing->step, fds);
     thread->page->parcel = landing->parcel;
     for (uint32_t i = 0; i < landing->count; i++)
         thread->page->is_of_array[i] = !landing->is_wide[i];
-    if (flight_send(thread, landing->ticket->fds, landing->count))
-        thread->answer.descriptors = landing->count;
-    ticket_free(landing->ticket); /* the places stay, for the numbers */
-    landing->ticket = NULL;
+    if (count == landing->count && flight_send(thread, fds, count))
+        thread->answer.descriptors = count;
+    tickets_close(account, fds, count);
 }
 
 /* The thread is told how a command of it came out, perhaps that which was refused. */

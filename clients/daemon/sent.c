@@ -35,6 +35,8 @@ struct sent {
     struct purse *purse;
     uint64_t step;
     uint32_t pieces;
+    bool is_wrapped; /* its parcel has a trailer, and wasn't read yet */
+    struct fixups fixups;
 };
 
 bool sent_all_begin(struct sent_all *all)
@@ -120,10 +122,10 @@ static void let_go(struct sent_all *all, struct sent *sent)
     all->spare_count++;
 }
 
-struct sent *sent_new(struct process *process, const struct parcel *parcel)
+struct sent *sent_new(struct process *process, struct parcel *parcel)
 {
     uint64_t bytes = parcel->data_size + parcel->offsets_size, objects = parcel->offsets_size / sizeof(binder_size_t);
-    bytes += parcel->ticket ? parcel->ticket->fixup_count * sizeof *parcel->ticket->fixups : 0;
+    bytes += parcel->fixups.count * sizeof *parcel->fixups.all;
     uint32_t pieces = (uint32_t)(1 + objects + bytes / PIECE);
     struct sent_all *all = &process->engine->sent;
     struct purse *purse = purse_of(process);
@@ -134,13 +136,15 @@ struct sent *sent_new(struct process *process, const struct parcel *parcel)
         let_go(all, sent);
         return NULL;
     }
-    *sent = (struct sent){.purse = purse, .pieces = pieces};
+    *sent = (struct sent){.purse = purse, .pieces = pieces, .is_wrapped = parcel->is_wrapped, .fixups = parcel->fixups};
+    parcel->fixups = (struct fixups){NULL, 0};
     return sent;
 }
 
 void sent_free(struct sent_all *all, struct sent *sent)
 {
     give(sent->purse, sent->pieces);
+    free(sent->fixups.all);
     let_go(all, sent);
 }
 
@@ -150,6 +154,34 @@ void sent_keep(struct sent_all *all, struct sent *sent, uint64_t step)
     sent->step = step;
     sent->next = *head;
     *head = sent;
+    all->wrapped += sent->is_wrapped;
+}
+
+static struct sent *find(const struct sent_all *all, uint64_t step)
+{
+    struct sent *sent = all->heads[step % SENT_LISTS];
+    while (sent && sent->step != step)
+        sent = sent->next;
+    return sent;
+}
+
+struct account *sent_payer(const struct sent_all *all, uint64_t step)
+{
+    const struct sent *sent = find(all, step);
+    return sent ? sent->purse->account : NULL;
+}
+
+struct fixups sent_unwrap(struct sent_all *all, uint64_t step)
+{
+    struct sent *sent = find(all, step);
+    struct fixups fixups = {NULL, 0};
+    if (!sent)
+        return fixups;
+    fixups = sent->fixups;
+    sent->fixups = (struct fixups){NULL, 0};
+    all->wrapped -= sent->is_wrapped;
+    sent->is_wrapped = false;
+    return fixups;
 }
 
 static void end(struct sent_all *all, uint64_t step)
@@ -161,6 +193,7 @@ static void end(struct sent_all *all, uint64_t step)
     if (!sent)
         return;
     *at = sent->next;
+    all->wrapped -= sent->is_wrapped;
     sent_free(all, sent);
 }
 
@@ -169,8 +202,8 @@ void sent_see_ended(struct engine *engine)
     struct sent_all *all = &engine->sent;
     size_t count = hullpippin_live_ended(&engine->live, all->ended, ENDED_MOST);
     for (size_t i = 0; i < count; i++) {
+        tickets_end(engine, all->ended[i]);
         end(all, all->ended[i]);
-        ticket_end(&engine->tickets, all->ended[i]);
     }
 }
 

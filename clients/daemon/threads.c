@@ -168,15 +168,21 @@ int thread_join(struct process *process, uint64_t tid, int fds[3])
     return 0;
 }
 
+/* Descriptors that it hasn't handed over go to nobody. */
+static void end_landing(struct thread *thread)
+{
+    struct landing *landing = thread->landing;
+    if (landing && landing->is_on_way)
+        tickets_end(thread->process->engine, landing->step);
+}
+
 struct landing *thread_landing(struct thread *thread)
 {
+    end_landing(thread);
     if (!thread->landing)
-        thread->landing = calloc(1, sizeof *thread->landing);
-    if (thread->landing) {
-        ticket_free(thread->landing->ticket);
-        thread->landing->ticket = NULL;
-        thread->landing->count = 0;
-    }
+        return thread->landing = calloc(1, sizeof *thread->landing);
+    thread->landing->is_on_way = false;
+    thread->landing->count = 0;
     return thread->landing;
 }
 
@@ -206,8 +212,7 @@ void thread_free(struct thread *thread)
     tell_end(thread);
     seat_forget(thread);
     doorbell_free(thread);
-    if (thread->landing)
-        ticket_free(thread->landing->ticket);
+    end_landing(thread);
     free(thread->landing);
     loop_drop(loop, &thread->link);
     loop_drop(loop, &thread->bell);
