@@ -68,27 +68,32 @@ pub fn settle<A>(op: &Op<A>, told: Told, slots: &mut [u64]) {
 }
 
 /// What an answer of the library is for the bench. A write must be run to its end.
-pub fn told(outcome: Result<Outcome, hullpippin::Error>) -> Told {
+pub fn told(outcome: &Result<Outcome, hullpippin::Error>) -> Told {
     match outcome {
         Ok(Outcome::Done { answer: Answer::Got { stream, .. }, .. }) => {
-            Told::Got { size: stream.len(), buffer: commands::buffer_of(&stream) }
+            Told::Got { size: stream.len(), buffer: commands::buffer_of(stream) }
         }
         Ok(Outcome::Done { answer: Answer::Opened | Answer::Set, .. }) => Told::Done,
-        Ok(Outcome::Done { answer: Answer::Wrote { ref notes, stop: None, .. }, .. }) if notes.is_empty() => Told::Done,
+        Ok(Outcome::Done { answer: Answer::Wrote { notes, stop: None, .. }, .. }) if notes.is_empty() => Told::Done,
         Ok(Outcome::Back(Why::Taken)) => Told::Taken,
         other => Told::Otherwise(format!("{other:?}")),
     }
 }
 
-/// Makes a request by a call of its own.
+/// Makes a request by a call of its own. The memory of its answer is the next one's, as a program in C would have it.
 pub fn call(seat: &mut Seat, ask: &Ask, buffer: u64) -> Told {
-    told(match ask {
+    let outcome = match ask {
         Ask::Open { pid, euid, window } => seat.open(*pid, *euid, *window),
         Ask::Manager => seat.manager(),
         Ask::Write { stream, area } => seat.write(stream, area),
         Ask::Read(limit) => seat.read(*limit),
         Ask::Free => seat.write(&commands::free(buffer), &[]),
-    })
+    };
+    let told = told(&outcome);
+    if let Ok(Outcome::Done { answer, .. }) = outcome {
+        seat.reuse(answer);
+    }
+    told
 }
 
 /// A request to be posted; `free` is the command for a free.
@@ -106,7 +111,7 @@ pub fn posted<'a>(ask: &'a Ask, free: &'a [u8]) -> Request<'a> {
 pub fn hand_over(seat: &mut Seat, ask: &Ask, buffer: u64) -> Told {
     let free = commands::free(buffer);
     let served = seat.post(posted(ask, &free)).and_then(|()| seat.serve());
-    told(served.and_then(|_| seat.collect()))
+    told(&served.and_then(|_| seat.collect()))
 }
 
 /// A journal of ours as it was spelled before there were reports of flooding, which nothing here asks for: as the other

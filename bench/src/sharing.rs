@@ -53,7 +53,7 @@ impl Hand for ByCall {
         while let Told::Taken = told {
             pause(&mut turn);
             if !seat.look().taken {
-                told = engines::told(seat.again());
+                told = engines::told(&seat.again());
             }
         }
         told
@@ -75,7 +75,7 @@ impl Hand for ByPost {
         loop {
             match seat.collect() {
                 Ok(Outcome::Handed) => (),
-                outcome => return engines::told(outcome),
+                outcome => return engines::told(&outcome),
             }
             match seat.serve() {
                 Err(Error::Taken) => pause(&mut turn),

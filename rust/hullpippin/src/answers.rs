@@ -208,10 +208,16 @@ pub(crate) trait Fetched {
     /// So many bytes from `out` on can be written.
     unsafe fn copy(&mut self, part: u32, out: *mut u8, room: usize) -> usize;
 
+    /// No bytes, in memory that a part may be put into.
+    fn spare(&mut self, _part: u32) -> Vec<u8> {
+        Vec::new()
+    }
+
     /// A part of what was read, which has so many bytes.
     fn bytes(&mut self, part: u32, size: usize) -> Vec<u8> {
-        let mut bytes = Vec::with_capacity(size);
+        let mut bytes = self.spare(part);
         if size > 0 {
+            bytes.reserve(size);
             // SAFETY: there is room for so many bytes, and the library fills as many of it as it tells.
             unsafe {
                 let told = self.copy(part, bytes.as_mut_ptr(), size);

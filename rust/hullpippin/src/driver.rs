@@ -47,7 +47,7 @@ impl Driver {
         // SAFETY: the driver's handle has a driver until it is let go of, and the seat's is empty.
         checked(unsafe { sys::hullpippin_take_seat(&mut self.handle, &mut handle) })?;
         let number = self.numbers.pop_front().expect("a seat that was handed out was there");
-        Ok(Seat { handle, number })
+        Ok(Seat { handle, number, spare: Default::default() })
     }
 
     /// Gives a seat back, behind those that are there. One of another driver comes back.
@@ -132,6 +132,8 @@ impl History {
 pub struct Seat {
     handle: sys::hullpippin_seat,
     number: u32,
+    // Memory for the parts of what is read next, by their numbers.
+    spare: [Vec<u8>; 3],
 }
 
 // The library proves that what is behind a handle may go to another thread.
@@ -204,6 +206,34 @@ impl Seat {
     /// [`Fault::Again`](crate::Fault::Again).
     pub fn read(&mut self, limit: u32) -> Result<Outcome, Error> {
         self.asked(|seat, answer| unsafe { sys::hullpippin_read(seat, limit, answer) })
+    }
+
+    /// Takes the memory of an answer that is no longer needed, for what the seat reads next. Else each read asks for new memory.
+    ///
+    /// ```
+    /// use hullpippin::{Command, Driver, Parcel};
+    ///
+    /// fn main() -> Result<(), hullpippin::Error> {
+    ///     let mut driver = Driver::new(2)?;
+    ///     let (mut manager, mut client) = (driver.take_seat()?, driver.take_seat()?);
+    ///     manager.open(100, 1000, 4096)?;
+    ///     manager.manager()?;
+    ///     manager.command(&Command::EnterLooper)?;
+    ///     client.open(200, 2000, 4096)?;
+    ///     for code in 0..3 {
+    ///         client.transact(0, code, hullpippin::ONE_WAY, &Parcel::from(&b"hi"[..]))?;
+    ///         let Some(answer) = client.read(256)?.answer() else { panic!() };
+    ///         // What the answer tells is used here, and then its memory is the next one's.
+    ///         client.reuse(answer);
+    ///     }
+    ///     Ok(())
+    /// }
+    /// ```
+    pub fn reuse(&mut self, answer: Answer) {
+        if let Answer::Got { stream, data, offsets } = answer {
+            self.spare = [stream, data, offsets];
+            self.spare.iter_mut().for_each(Vec::clear);
+        }
     }
 
     /// Ends the seat's thread. The seat may open or attach again.
@@ -309,6 +339,10 @@ impl Seat {
 impl Fetched for Seat {
     unsafe fn copy(&mut self, part: u32, out: *mut u8, room: usize) -> usize {
         sys::hullpippin_answer_bytes(&mut self.handle, part, out, room)
+    }
+
+    fn spare(&mut self, part: u32) -> Vec<u8> {
+        self.spare.get_mut(part as usize).map(std::mem::take).unwrap_or_default()
     }
 }
 

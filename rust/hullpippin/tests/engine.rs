@@ -353,3 +353,36 @@ fn whom_a_step_reached_is_told() {
     live.read(1, 256).expect("a step");
     assert_eq!(live.reached(), Ok(Some(vec![TodoList::OfThread(1)])));
 }
+
+/// The manager's seat and a client's, which has sent so many one-way calls.
+fn with_calls(driver: &mut Driver, codes: std::ops::Range<u32>) -> (Seat, Seat) {
+    let (mut manager, mut client) = (driver.take_seat().expect("a seat"), driver.take_seat().expect("a seat"));
+    manager.open(100, 1000, 65536).expect("opened");
+    manager.manager().expect("set");
+    manager.command(&Command::EnterLooper).expect("written");
+    client.open(200, 2000, 65536).expect("opened");
+    for code in codes {
+        client.transact(0, code, ONE_WAY, &Parcel::from(&[code as u8; 24][..])).expect("written");
+    }
+    (manager, client)
+}
+
+#[test]
+fn memory_of_an_answer_is_the_next_one_s() {
+    let mut driver = Driver::new(2).expect("a driver");
+    let (mut manager, _client) = with_calls(&mut driver, 1..3);
+    let (mut places, mut others) = (vec![], vec![]);
+    for code in 1..3_u8 {
+        let Some(Answer::Got { stream, data, offsets }) = manager.read(256).expect("read").answer() else { panic!() };
+        assert_eq!((&data[..], offsets.len()), (&[code; 24][..], 0));
+        places.push((stream.as_ptr(), data.as_ptr()));
+        let sizes = [stream.capacity(), data.capacity()];
+        let answer = Answer::Got { stream, data, offsets };
+        let Some(Return::Transaction(call)) = returns(answer.clone()).pop() else { panic!() };
+        manager.command(&Command::FreeBuffer(call.buffer)).expect("written");
+        manager.reuse(answer);
+        // (memory that was given back would be these)
+        others.extend(sizes.map(Vec::<u8>::with_capacity));
+    }
+    assert_eq!(places[0], places[1]);
+}
