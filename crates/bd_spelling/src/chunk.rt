@@ -9,7 +9,6 @@ use crate::fault::ReadError;
 use crate::laid::lay_whole;
 use crate::reading::entry_at;
 use crate::versions::Version;
-use crate::writing::answer_len;
 use bd_space::Entry;
 use std::alloc::{AllocError, Global};
 use std::marker::Model;
@@ -49,8 +48,7 @@ fn lay_behind(bytes: &mut Vec<u8>, used: usize, entry: &Entry, command: &[u8], s
     requires room { used + length (entry_bytes entry.now) ≤ length bytes.old.items }
     ensures { IsLaid used (entry_bytes entry.now) bytes.old.items bytes.new.items result }
 {
-    let answer = answer_len(&entry.answer).unwrap();
-    lay_whole(bytes, used, entry, command, step, answer)
+    lay_whole(bytes, used, entry, command, step)
 }
 
 impl Chunk {

@@ -36,6 +36,10 @@ fn lay_block(out: &mut [u8], at: usize, bytes: &[u8]) -> usize
     ensures { IsLaid at (block bytes.now) out.old out.new result }
 {
     let at = lay_word(out, at, bytes.len() as u32);
+    // Most offsets are none, and copying none costs as much as copying some.
+    if bytes.is_empty() {
+        return at;
+    }
     lay(out, at, bytes)
 }
 
@@ -90,35 +94,39 @@ fn lay_step(out: &mut [u8], at: usize, step: &Step, command: &[u8]) -> usize
     }
 }
 
+// An answer behind its length, which its kind tells: so nobody has to measure it first.
 #[inline(always)]
 fn lay_answer(out: &mut [u8], at: usize, answer: &StepAnswer) -> usize
     requires spelled { IsAnswer answer.now }
-    requires room { at + length (answer_bytes answer.now) ≤ length out.old }
-    ensures { IsLaid at (answer_bytes answer.now) out.old out.new result }
+    requires fits { IsBlock (answer_bytes answer.now) }
+    requires room { at + 4 + length (answer_bytes answer.now) ≤ length out.old }
+    ensures { IsLaid at (block (answer_bytes answer.now)) out.old out.new result }
 {
     match answer {
-        StepAnswer::Opened => lay(out, at, &[0]),
-        StepAnswer::Set => lay(out, at, &[1]),
-        StepAnswer::Exited => lay(out, at, &[2]),
-        StepAnswer::Accepted => lay(out, at, &[3]),
-        StepAnswer::Noted(note) => lay(out, at, &[4, note_number(*note)]),
-        StepAnswer::Stopped(cause) => lay(out, at, &[5, cause_number(*cause)]),
+        StepAnswer::Opened => lay(out, at, &[1, 0, 0, 0, 0]),
+        StepAnswer::Set => lay(out, at, &[1, 0, 0, 0, 1]),
+        StepAnswer::Exited => lay(out, at, &[1, 0, 0, 0, 2]),
+        StepAnswer::Accepted => lay(out, at, &[1, 0, 0, 0, 3]),
+        StepAnswer::Noted(note) => lay(out, at, &[2, 0, 0, 0, 4, note_number(*note)]),
+        StepAnswer::Stopped(cause) => lay(out, at, &[2, 0, 0, 0, 5, cause_number(*cause)]),
         StepAnswer::Got {
             stream,
             bytes,
             offsets,
         } => {
+            let len = 13 + stream.len() + bytes.len() + offsets.len();
+            let at = lay_word(out, at, len as u32);
             let at = lay(out, at, &[6]);
             let at = lay_block(out, at, stream.as_slice());
             let at = lay_block(out, at, bytes.as_slice());
             lay_block(out, at, offsets.as_slice())
         }
-        StepAnswer::Refused(fault) => lay(out, at, &[7, fault_number(*fault)]),
+        StepAnswer::Refused(fault) => lay(out, at, &[2, 0, 0, 0, 7, fault_number(*fault)]),
     }
 }
 
 /// Puts the one spelling of an entry that a journal spells to a place, and answers the place behind it. The step's command, if it is one,
-/// is spelled by these bytes; the lengths are those of the spellings of the step and of the answer.
+/// is spelled by these bytes; the length is that of the step's spelling.
 #[inline(always)]
 pub(crate) fn lay_whole(
     out: &mut [u8],
@@ -126,20 +134,17 @@ pub(crate) fn lay_whole(
     entry: &Entry,
     command: &[u8],
     step: u32,
-    answer: u32,
 ) -> usize
     requires command { SpellsCommand entry.now.step command.now }
     requires spelled { IsStep entry.now.step × IsBlock (step_bytes entry.now.step) }
-    requires answered { IsAnswer entry.now.answer }
+    requires answered { IsAnswer entry.now.answer × IsBlock (answer_bytes entry.now.answer) }
     requires step { step ≡ length (step_bytes entry.now.step) }
-    requires answer { answer ≡ length (answer_bytes entry.now.answer) }
     requires room { at + length (entry_bytes entry.now) ≤ length out.old }
     ensures { IsLaid at (entry_bytes entry.now) out.old out.new result }
 {
     let at = lay_word(out, at, entry.seat);
     let at = lay_word(out, at, step);
     let at = lay_step(out, at, &entry.step, command);
-    let at = lay_word(out, at, answer);
     lay_answer(out, at, &entry.answer)
 }
 
@@ -158,7 +163,7 @@ pub fn lay_entry(seats: u32, entry: &Entry, out: &mut [u8]) -> Option<usize>
     let answer = answer_len(&entry.answer)?;
     let len = 12 + step as usize + answer as usize;
     if len <= out.len() {
-        let _end = lay_whole(out, 0, entry, command, step, answer);
+        let _end = lay_whole(out, 0, entry, command, step);
     }
     Some(len)
 }
