@@ -5,14 +5,14 @@ ghost use Rattle.bd_uapi.specs.Limits.{most_seats, IsSeats};
 ghost use Rattle.bd_space.specs.Histories as histories;
 ghost use Rattle.bd_space.specs.Histories.{HasPlace};
 ghost use Rattle.bd_space.specs.Steps as steps;
-ghost use Rattle.bd_space.specs.{Runs.{HasRun, HasEntry, IsAtLimit}, declared.step.Request.TheVariants.{Write}};
 ghost use Rattle.bd_engine.specs.Refusals.{FullOnly, MemoryOnly, IsSeatFault};
 ghost use Rattle.bd_step.specs.declared.step_error.StepError.TheVariants.{NoMemory};
 
-use crate::run::{Ran, Span};
+use crate::parcel::Sheet;
 use crate::tables::HasTables;
 use crate::wide::WideEngine;
-use bd_space::{Answer, Request, Step, StepAnswer};
+use crate::write::Progress;
+use bd_space::{Step, StepAnswer};
 use bd_spelling::Record;
 use bd_step::{StepError, Tables};
 use bd_uapi::{Fault, MOST_SEATS};
@@ -22,7 +22,11 @@ use std::marker::Model;
 /// The history of a driver's steps, and what it has come to.
 pub struct Engine {
     // Of 1 to 31 seats. It keeps which of them are ready, which is asked after each run.
-    wide: WideEngine,
+    pub(crate) wide: WideEngine,
+    // How far the latest write came. Its room for notes, of which there mostly are none, is kept for the next.
+    pub(crate) progress: Progress,
+    // What the latest command was entered as.
+    pub(crate) command: Sheet,
 }
 
 impl Model for Engine {
@@ -40,7 +44,11 @@ impl Model for Engine {
 // Written out: one that is derived would be proved again, with that of each table, in every crate that holds an engine.
 impl Drop for Engine {
     fn drop(self) {
-        let Engine { wide: _ } = self;
+        let Engine {
+            wide: _,
+            progress: _,
+            command: _,
+        } = self;
     }
 }
 
@@ -79,7 +87,11 @@ impl Engine {
             return Err(AllocError);
         };
         wide.keep_ready(alloc)?;
-        Ok(Engine { wide })
+        Ok(Engine {
+            wide,
+            progress: Progress::new(alloc),
+            command: Sheet::new(alloc),
+        })
     }
 
     /// The engine of wide records that it is, to be looked at.
@@ -128,7 +140,11 @@ impl Engine {
         ensures entries { result.entries ≡ self.entries }
         ensures lawful { histories.IsHistory (record { seats = result.seats; entries = result.entries }) }
     {
-        let Engine { wide } = self;
+        let Engine {
+            wide,
+            progress: _,
+            command: _,
+        } = self;
         wide.into_record()
     }
 
@@ -148,60 +164,5 @@ impl Engine {
         ensures memory { IfErr result (λ why. MemoryOnly why (histories.HasPlace self.old)) }
     {
         self.wide.step(seat, step)
-    }
-
-    /// Runs a request: makes its steps, and says what they answer it and where they stand. A write that memory or the
-    /// full history stops after some of its commands answers those; refused before its first step, the engine is as it
-    /// was. A write that makes no step is never refused.
-    #[inline(always)]
-    pub fn run(&mut self, seat: u32, request: &Request) -> Result<Ran, StepError>
-        requires { seat < self.old.seats }
-        ensures ok { IfOk result (λ r. HasRun self.old self.new seat request.now r.answer r.from r.to) }
-        ensures err { OnErr result (self.new ≡ self.old) }
-        ensures full { IfErr result (λ why. FullOnly why (IsAtLimit self.old seat request.now)) }
-        // Want of memory isn't said of a full history.
-        ensures memory { IfErr result (λ why. MemoryOnly why (HasPlace self.old)) }
-        // Only a run that has an entry is refused.
-        ensures some { IfErr result (λ _. HasEntry self.old seat request.now) }
-    {
-        self.wide.run(seat, request)
-    }
-
-    /// Runs a request as `run` does, writes to `told` what it is answered, and says where its steps stand. Of what is written by a run
-    /// that is refused nothing is known.
-    #[inline(always)]
-    pub fn run_in(
-        &mut self,
-        seat: u32,
-        request: &Request,
-        told: &mut Answer,
-    ) -> Result<Span, StepError>
-        requires { seat < self.old.seats }
-        ensures ok { IfOk result (λ span. HasRun self.old self.new seat request.now told.new span.from span.to) }
-        ensures err { OnErr result (self.new ≡ self.old) }
-        ensures full { IfErr result (λ why. FullOnly why (IsAtLimit self.old seat request.now)) }
-        ensures memory { IfErr result (λ why. MemoryOnly why (HasPlace self.old)) }
-        ensures some { IfErr result (λ _. HasEntry self.old seat request.now) }
-    {
-        self.wide.run_in(seat, request, told)
-    }
-
-    /// Runs a write as `run_in` does, whose bytes are lent.
-    #[inline(always)]
-    pub fn write(
-        &mut self,
-        seat: u32,
-        stream: &[u8],
-        area: &[u8],
-        told: &mut Answer,
-    ) -> Result<Span, StepError>
-        requires { seat < self.old.seats }
-        ensures ok { IfOk result (λ span. HasRun self.old self.new seat (Write stream.now area.now) told.new span.from span.to) }
-        ensures err { OnErr result (self.new ≡ self.old) }
-        ensures full { IfErr result (λ why. FullOnly why (IsAtLimit self.old seat (Write stream.now area.now))) }
-        ensures memory { IfErr result (λ why. MemoryOnly why (HasPlace self.old)) }
-        ensures some { IfErr result (λ _. HasEntry self.old seat (Write stream.now area.now)) }
-    {
-        self.wide.write(seat, stream, area, told)
     }
 }

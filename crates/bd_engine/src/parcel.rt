@@ -1,9 +1,10 @@
-//! Cutting the parcel of a command from the area of its write.
+//! The step of a command, and its parcel, which is cut from the area of its write.
 
-ghost use Rattle.std.specs.Prelude.{◌≡◌, ◌+◌, nat_le, length, take, drop, true, false, IfOk, MatchOption};
-ghost use Rattle.bd_space.specs.Writes.{parcel_of, parcel_for};
+ghost use Rattle.std.specs.Prelude.{◌≡◌, ◌+◌, nat_le, length, take, drop, true, false, IfOk, OnOk, MatchOption};
+ghost use Rattle.bd_space.specs.Writes.{parcel_of, parcel_for, step_of_command};
+ghost use Rattle.bd_space.specs.declared.step.Step.TheVariants as step;
 
-use bd_space::{Bytes, Parcel};
+use bd_space::{Bytes, Entry, Parcel, Step, StepAnswer};
 use bd_uapi::{Command, TransactionData};
 use std::alloc::{AllocError, Global};
 use std::mem::replace;
@@ -11,9 +12,9 @@ use std::mem::replace;
 // The memory of a larger part isn't kept.
 const KEPT: usize = 65536;
 
-/// Memory for the two parts of a parcel. It is kept from command to command, so that most ask for none.
+// Memory for the two parts of a parcel. It is kept from command to command, so that most ask for none.
 #[derive(Drop)]
-pub(crate) struct ParcelRoom {
+struct ParcelRoom {
     bytes: Vec<u8>,
     offsets: Vec<u8>,
 }
@@ -36,6 +37,9 @@ fn copied(room: &mut Vec<u8>, bytes: &[u8]) -> Result<Bytes, AllocError>
     ensures { IfOk result (λ b. b ≡ bytes.now) }
 {
     let none = Vec::new(*room.allocator());
+    if bytes.is_empty() {
+        return Ok(Bytes::new(none));
+    }
     let mut copy = replace(room, none);
     copy.clear();
     copy.extend_from_slice(bytes)?;
@@ -52,8 +56,8 @@ fn keep(room: &mut Vec<u8>, bytes: Bytes) {
 }
 
 impl ParcelRoom {
-    /// No memory yet.
-    pub(crate) fn new(alloc: Global) -> ParcelRoom {
+    // No memory yet.
+    fn new(alloc: Global) -> ParcelRoom {
         ParcelRoom {
             bytes: Vec::new(alloc),
             offsets: Vec::new(alloc),
@@ -81,14 +85,10 @@ impl ParcelRoom {
         }
     }
 
-    /// The parcel of a transaction or reply, in memory of its own, if it lies inside the area.
+    // The parcel of a transaction or reply, in memory of its own, if it lies inside the area.
     #[tactic(auto, unfolding(bd_space::specs::Writes::parcel_for))]
     #[inline(always)]
-    pub(crate) fn parcel_for(
-        &mut self,
-        area: &[u8],
-        command: &Command,
-    ) -> Result<Option<Parcel>, AllocError>
+    fn parcel_for(&mut self, area: &[u8], command: &Command) -> Result<Option<Parcel>, AllocError>
         ensures { IfOk result (λ p. p ≡ parcel_for area.now command.now) }
     {
         match command {
@@ -97,11 +97,73 @@ impl ParcelRoom {
         }
     }
 
-    /// Keeps the memory of a parcel for the next one.
+    // Keeps the memory of a parcel for the next one.
     #[inline(always)]
-    pub(crate) fn keep(&mut self, parcel: Parcel) {
-        let Parcel { bytes, offsets } = parcel;
-        keep(&mut self.bytes, bytes);
-        keep(&mut self.offsets, offsets);
+    fn keep(&mut self, parcel: Option<Parcel>) {
+        if let Some(Parcel { bytes, offsets }) = parcel {
+            keep(&mut self.bytes, bytes);
+            keep(&mut self.offsets, offsets);
+        }
+    }
+}
+
+/// The entry of the latest command, which stays from command to command: nothing of it is cleared for the next one.
+#[derive(Drop)]
+pub(crate) struct Sheet {
+    pub(crate) entry: Entry,
+    room: ParcelRoom,
+}
+
+// Puts a command's step in place of that of the one before it. What is there already isn't written again.
+#[inline(always)]
+fn put_step(to: &mut Step, made: Command, cut: Option<Parcel>)
+    ensures { to.new ≡ step.Command made cut }
+{
+    let Step::Command { command, parcel } = to else {
+        *to = Step::Command {
+            command: made,
+            parcel: cut,
+        };
+        return;
+    };
+    *command = made;
+    if cut.is_some() || parcel.is_some() {
+        *parcel = cut;
+    }
+}
+
+impl Sheet {
+    /// An entry that nobody made, and no memory yet.
+    pub(crate) fn new(alloc: Global) -> Sheet {
+        Sheet {
+            entry: Entry {
+                seat: 0,
+                step: Step::ExitThread,
+                answer: StepAnswer::Exited,
+            },
+            room: ParcelRoom::new(alloc),
+        }
+    }
+
+    /// Puts the step of a command there, whose parcel is cut from the area. Errors: memory was refused.
+    #[inline(always)]
+    pub(crate) fn put(&mut self, seat: u32, area: &[u8], command: Command) -> Result<(), AllocError>
+        ensures seat { OnOk result (self.new.entry.seat ≡ seat) }
+        ensures step { OnOk result (self.new.entry.step ≡ step_of_command area.now command) }
+    {
+        let parcel = self.room.parcel_for(area, &command)?;
+        self.entry.seat = seat;
+        put_step(&mut self.entry.step, command, parcel);
+        Ok(())
+    }
+
+    /// Keeps the memory of the parcel, if there is one, for the next.
+    #[inline(always)]
+    pub(crate) fn keep_parcel(&mut self) {
+        if let Step::Command { command: _, parcel } = &mut self.entry.step {
+            if parcel.is_some() {
+                self.room.keep(parcel.take());
+            }
+        }
     }
 }

@@ -10,6 +10,7 @@ ghost use Rattle.bd_spelling.specs.Spelling.{SpellsCommand};
 ghost use Rattle.bd_step.specs.{Plain.{IsBrief, IsGot}, declared.answer.Brief.TheVariants.{Got}};
 ghost use Rattle.bd_engine.specs.{Refusals.{FullOnly, MemoryOnly}, Writing.{IsWrite, IsOneStep}};
 
+use crate::engine::Engine;
 use crate::wide::WideEngine;
 use bd_space::{Answer, Entry, Request, Step, StepAnswer};
 use bd_step::{Brief, Plain, StepError};
@@ -104,6 +105,7 @@ impl WideEngine {
         ensures err { OnErr result (self.new ≡ self.old) }
         ensures full { IfErr result (λ why. FullOnly why (is_at_limit self.old seat (Some step) ≡ true)) }
         ensures memory { IfErr result (λ why. MemoryOnly why (HasPlace self.old)) }
+        ensures seats { self.new.seats ≡ self.old.seats }
     {
         let from = self.len();
         let answer = StepAnswer::Exited;
@@ -119,7 +121,9 @@ impl WideEngine {
             }
         }
     }
+}
 
+impl Engine {
     /// Runs a request: makes its steps, writes to `told` what they answer it, and says where they stand. A write that memory or the
     /// full history stops after some of its commands answers those; refused before its first step, the engine is as it
     /// was, and of what is written nothing is known. A write that makes no step is never refused.
@@ -140,7 +144,7 @@ impl WideEngine {
         ensures some { IfErr result (λ _. HasEntry self.old seat request.now) }
     {
         match step_of(request) {
-            Some(step) => self.single(seat, step, told),
+            Some(step) => self.wide.single(seat, step, told),
             None => match request {
                 Request::Write { stream, area } => {
                     self.write(seat, stream.as_slice(), area.as_slice(), told)

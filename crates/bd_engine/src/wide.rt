@@ -5,7 +5,6 @@ ghost use Rattle.bd_uapi.specs.Limits.{most_seats};
 ghost use Rattle.bd_space.specs.Histories as histories;
 ghost use Rattle.bd_space.specs.Histories.{most_steps};
 ghost use Rattle.bd_space.specs.Steps as steps;
-ghost use Rattle.bd_space.specs.Writes.{parcel_for};
 ghost use Rattle.bd_spelling.specs.Spelling.{SpellsCommand};
 ghost use Rattle.bd_step.specs.Plain.{IsBrief};
 ghost use Rattle.bd_engine.specs.Refusals.{FullOnly, MemoryOnly, IsLiveSeats, IsLiveSeatFault};
@@ -13,15 +12,13 @@ ghost use Rattle.bd_step.specs.declared.step_error.StepError.TheVariants.{NoMemo
 
 use crate::entering::Entering;
 use crate::live::Live;
-use crate::parcel::ParcelRoom;
 use crate::tables::HasTables;
-use bd_space::{Entry, Parcel, Step, StepAnswer};
+use bd_space::{Entry, Step, StepAnswer};
 use bd_spelling::{Entries, Log, Record, command_of};
 use bd_step::{Brief, StepError, Tables};
-use bd_uapi::{Command, Fault, Note};
+use bd_uapi::Fault;
 use std::alloc::{AllocError, Global};
 use std::marker::Model;
-use std::mem::replace;
 
 /// The most steps that a history has: places have 32 bits, and one of them is no place.
 const MOST_STEPS: usize = 4294967295;
@@ -31,10 +28,6 @@ const MOST_STEPS: usize = 4294967295;
 pub struct WideEngine {
     entries: Entering,
     live: Live,
-    // Room for a write's notes, which mostly has none: it is kept from write to write, so that each asks for no memory.
-    notes: Vec<(u32, Note)>,
-    // Memory for a command's parcel.
-    room: ParcelRoom,
 }
 
 impl Model for WideEngine {
@@ -54,8 +47,6 @@ impl Drop for WideEngine {
         let WideEngine {
             entries: _,
             live: _,
-            notes: _,
-            room: _,
         } = self;
     }
 }
@@ -84,8 +75,6 @@ impl WideEngine {
                     step: 0,
                 },
                 live,
-                notes: Vec::new(alloc),
-                room: ParcelRoom::new(alloc),
             }),
             Err(fault) => Err(fault),
         }
@@ -96,11 +85,6 @@ impl WideEngine {
         ensures { self.new ≡ self.old }
     {
         self.live.keep_ready(alloc)
-    }
-
-    // The allocator that the engine's memory comes from.
-    pub(crate) fn alloc(&self) -> Global {
-        *self.notes.allocator()
     }
 
     /// How many seats there are, 1 to 65536.
@@ -147,63 +131,13 @@ impl WideEngine {
         self.tables().ready_below(self.live.seats)
     }
 
-    // Room for the notes of a write, of which there are none yet.
-    pub(crate) fn take_notes(&mut self) -> Vec<(u32, Note)>
-        ensures same { self.new ≡ self.old }
-        ensures none { result.items ≡ [] }
-    {
-        let none = Vec::new(self.alloc());
-        let mut notes = replace(&mut self.notes, none);
-        notes.clear();
-        notes
-    }
-
-    // Keeps this room for the notes of the next write.
-    pub(crate) fn keep_notes(&mut self, notes: Vec<(u32, Note)>)
-        ensures { self.new ≡ self.old }
-    {
-        self.notes = notes;
-    }
-
-    // The parcel of a command, if it lies inside the area.
-    #[inline(always)]
-    pub(crate) fn cut_parcel(
-        &mut self,
-        area: &[u8],
-        command: &Command,
-    ) -> Result<Option<Parcel>, AllocError>
-        ensures same { self.new ≡ self.old }
-        ensures parcel { IfOk result (λ p. p ≡ parcel_for area.now command.now) }
-    {
-        self.room.parcel_for(area, command)
-    }
-
-    // Keeps the memory of the parcel of a step that was made, if it has one.
-    #[inline(always)]
-    pub(crate) fn keep_parcel(&mut self, step: Step)
-        ensures { self.new ≡ self.old }
-    {
-        if let Step::Command {
-            command: _,
-            parcel: Some(parcel),
-        } = step
-        {
-            self.room.keep(parcel);
-        }
-    }
-
     /// The history of all steps, which the engine gives up.
     pub fn into_record(self) -> Record
         ensures seats { result.seats ≡ self.seats }
         ensures entries { result.entries ≡ self.entries }
         ensures lawful { histories.IsHistory (record { seats = result.seats; entries = result.entries }) }
     {
-        let WideEngine {
-            entries,
-            live,
-            notes: _,
-            room: _,
-        } = self;
+        let WideEngine { entries, live } = self;
         Record {
             seats: live.seats,
             entries: Entries::from(entries.log),

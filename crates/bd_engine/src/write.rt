@@ -7,20 +7,22 @@ ghost use Rattle.bd_ways.specs.Words.{StepAnswer};
 ghost use Rattle.bd_space.specs.declared.step.Request.TheVariants.{Write};
 ghost use Rattle.bd_space.specs.Histories.{History, space_after, extended, HasPlace, is_at_limit};
 ghost use Rattle.bd_space.specs.Steps as steps;
-ghost use Rattle.bd_space.specs.{Runs.{HasRun}, Writes.{step_of_command}};
+ghost use Rattle.bd_space.specs.{Runs.{HasRun, HasEntry, IsAtLimit}, Writes.{step_of_command}};
 ghost use Rattle.bd_engine.specs.Refusals.{FullOnly, MemoryOnly};
 ghost use Rattle.bd_step.specs.Plain.{IsBrief};
 ghost use Rattle.bd_engine.specs.Writing.{HasCome, IsSame, IsAt, IsAfter, IsCourse, IsCutAt, IsTurnedAway, IsNext, IsSpelled, refused};
 ghost use Rattle.bd_engine.specs.Writing.{Ends, course_of, course_or, ended, is_unnoted};
 ghost use Rattle.bd_space.specs.declared.step.Answer.TheVariants.{Wrote};
 
+use crate::engine::Engine;
+use crate::parcel::Sheet;
 use crate::run::Span;
 use crate::wide::WideEngine;
 use bd_codec::read_command;
-use bd_space::{Answer, Entry, Notes, Step, StepAnswer, Stop};
+use bd_space::{Answer, Notes, Stop};
 use bd_step::{Brief, Plain, StepError};
 use bd_uapi::{Command, Fault, Note};
-use std::alloc::AllocError;
+use std::alloc::{AllocError, Global};
 use std::mem::replace;
 
 /// How far a write has come.
@@ -75,16 +77,23 @@ fn set_numbers(told: &mut Answer, consumed: u32, stop: Option<Stop>)
 }
 
 impl Progress {
-    // A write before its first command; the notes are empty, and only their room is used.
-    fn new(notes: Vec<(u32, Note)>) -> Progress
-        requires { notes.items ≡ [] }
-        ensures { IsAt result 0 0 [] }
-    {
+    /// Of no write.
+    pub(crate) fn new(alloc: Global) -> Progress {
         Progress {
             consumed: 0,
             count: 0,
-            notes,
+            notes: Vec::new(alloc),
         }
+    }
+
+    // A write begins: of the one before it only the room for notes stays.
+    #[inline(always)]
+    fn begin(&mut self)
+        ensures { IsAt self.new 0 0 [] }
+    {
+        self.consumed = 0;
+        self.count = 0;
+        self.notes.clear();
     }
 
     // Reads the next command, and has the bytes that spell it.
@@ -220,6 +229,7 @@ impl WideEngine {
         command: Command,
         spelled: &[u8],
         progress: &mut Progress,
+        sheet: &mut Sheet,
     ) -> Result<Brief, StepError>
         requires seat { seat < self.old.seats }
         requires spelled { IsSpelled command spelled.now }
@@ -240,15 +250,14 @@ impl WideEngine {
         if progress.reserve().is_err() {
             return Err(StepError::NoMemory);
         }
-        let Ok(parcel) = self.cut_parcel(area, &command) else {
-            return Err(StepError::NoMemory);
-        };
-        let step = Step::Command { command, parcel };
-        let answer = StepAnswer::Exited;
-        let mut entry = Entry { seat, step, answer };
-        let made = self.step_in_place(&mut entry, spelled);
-        self.keep_parcel(entry.step);
-        made
+        match sheet.put(seat, area, command) {
+            Err(AllocError) => Err(StepError::NoMemory),
+            Ok(()) => {
+                let made = self.step_in_place(&mut sheet.entry, spelled);
+                sheet.keep_parcel();
+                made
+            }
+        }
     }
 
     // Runs the next command of a write, which these bytes spell.
@@ -260,6 +269,7 @@ impl WideEngine {
         command: Command,
         spelled: &[u8],
         progress: &mut Progress,
+        sheet: &mut Sheet,
     ) -> Result<Going, StepError>
         requires seat { seat < self.old.seats }
         requires spelled { IsSpelled command spelled.now }
@@ -271,7 +281,7 @@ impl WideEngine {
             (λ going. IsCourse old self.new seat stream area.now (progress.old.consumed + length spelled.now) (course_of progress.new going))
             (λ why. (self.new ≡ old) × IsTurnedAway old seat (Write stream area.now) why) }
     {
-        match self.attempt(seat, area, command, spelled, progress) {
+        match self.attempt(seat, area, command, spelled, progress, sheet) {
             Err(why) => progress.cut_short(why),
             Ok(answer) => Ok(progress.after(answer, spelled.len() as u32)),
         }
@@ -285,6 +295,7 @@ impl WideEngine {
         stream: &[u8],
         area: &[u8],
         progress: &mut Progress,
+        sheet: &mut Sheet,
     ) -> Result<Going, StepError>
         requires seat { seat < self.old.seats }
         requires short { length stream.now ≤ 4096 }
@@ -298,7 +309,7 @@ impl WideEngine {
             match progress.next(stream) {
                 Err(fault) => return Ok(Going::Stops(Stop::Fault(fault))),
                 Ok((command, spelled)) => {
-                    match self.run_command(seat, area, command, spelled, progress) {
+                    match self.run_command(seat, area, command, spelled, progress, sheet) {
                         Err(why) => return Err(why),
                         Ok(Going::On) => {}
                         Ok(Going::Stops(stop)) => return Ok(Going::Stops(stop)),
@@ -309,7 +320,9 @@ impl WideEngine {
         }
         Ok(Going::On)
     }
+}
 
+impl Engine {
     /// Runs a write: its commands, each one step, whose parcels are cut from the area. As `run_in` does of such a request, but its
     /// bytes are lent.
     #[inline(always)]
@@ -323,19 +336,21 @@ impl WideEngine {
         requires { seat < self.old.seats }
         ensures ok { IfOk result (λ span. HasRun self.old self.new seat (Write stream.now area.now) told.new span.from span.to) }
         ensures err { OnErr result (self.new ≡ self.old) }
-        ensures away { IfErr result (IsTurnedAway self.old seat (Write stream.now area.now)) }
+        ensures full { IfErr result (λ why. FullOnly why (IsAtLimit self.old seat (Write stream.now area.now))) }
+        ensures memory { IfErr result (λ why. MemoryOnly why (HasPlace self.old)) }
+        ensures some { IfErr result (λ _. HasEntry self.old seat (Write stream.now area.now)) }
     {
         let from = self.len();
         if stream.len() > 4096 {
             *told = Answer::Refused(Fault::StreamTooLong);
             return Ok(Span { from, to: from });
         }
-        let mut progress = Progress::new(self.take_notes());
-        match self.run_each(seat, stream, area, &mut progress) {
+        self.progress.begin();
+        let wide = &mut self.wide;
+        match wide.run_each(seat, stream, area, &mut self.progress, &mut self.command) {
             Err(why) => Err(why),
             Ok(going) => {
-                progress.tell(going, told);
-                self.keep_notes(progress.notes);
+                self.progress.tell(going, told);
                 Ok(Span {
                     from,
                     to: self.len(),
