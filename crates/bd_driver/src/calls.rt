@@ -136,7 +136,10 @@ impl Driver {
     {
         let shared = &self.table.shared;
         let page = page_while_taken(&engine);
-        shared.exchange(table_seat, PAGE, Slot::Home(engine));
+        // The seat holds the page's empty slot, so nothing else comes out of it.
+        let Slot::Empty = shared.exchange(table_seat, PAGE, Slot::Home(engine)) else {
+            unreachable!()
+        };
         shared.swap::<Publish>(table_seat, PAGE, page);
         shared.fetch_and::<Put>(table_seat, PAGE, u64::MAX - TAKEN);
     }
