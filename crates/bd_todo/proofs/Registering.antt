@@ -2,20 +2,20 @@
 use Rattle.std.proofs.Common.{◌≡◌, ◌+◌, ◌-◌, ◌<◌, ◌≤◌, ◌==◌, ℕ, Bool, true, cond, List, [], ◌∷◌, ◌++◌, length, count_by, min, arith}
 use Rattle.std.proofs.lemmas.List.Sums.{sum_by_push, count_by-le-length}
 use Rattle.bd_space.specs.{declared.space.Work.{Work}, Todo.{is_item}}
-use Rattle.bd_todo.specs.{declared.register.Register.{Register}, declared.spots.Sought.{Sought}, declared.spots.Spots.{Spots}}
-use Rattle.bd_todo.specs.{Spots.{sought_of, is_sought, is_key}, SpotCounts.{count_at}, Registered.{rank, AreCounted}}
+use Rattle.bd_todo.specs.{declared.register.Register.{Register}, declared.spots.Sought.{Sought}, declared.finder.Finder.{Finder}}
+use Rattle.bd_todo.specs.{Spots.{sought_of, is_sought, is_key}, FoundCounts.{found_at}, Registered.{rank, AreCounted}}
 
-module _ (t : Register) (w : Work) (todo : List Work) (h : AreCounted t todo) (spots : Spots) where
+module _ (t : Register) (w : Work) (todo : List Work) (h : AreCounted t todo) (spots : Finder) where
   module _ (few : length todo < 18446744073709551615) (is : w.id.index ≡ count_by (λ v. v.id.place == w.id.place) todo) (rises : Bool)
       (above : rises ≡ true → (t.rises ≡ true) × (rank t.last < rank w.id))
-      (counts : (k : Sought) → count_at spots k ≡ cond (is_key k (sought_of w.kind)) (min (count_at t.spots k + 1) 18446744073709551615) (count_at t.spots k)) where
+      (counts : (k : Sought) → found_at spots k ≡ cond (is_key k (sought_of w.kind)) (min (found_at t.spots k + 1) 18446744073709551615) (found_at t.spots k)) where
     more : (p : Work → Bool) → count_by p (todo ++ w ∷ []) ≡ count_by p todo + cond (p w) 1 0
     more p = sum_by_push (λ v. cond (p v) 1 0) todo w
 
     low : (p : Work → Bool) → count_by p todo < 18446744073709551615
     low p = let c = count_by-le-length p todo in omega (arith, c, few)
 
-    counted : (k : Sought) → count_at spots k ≡ count_by (λ v. is_sought k v.kind) (todo ++ w ∷ [])
+    counted : (k : Sought) → found_at spots k ≡ count_by (λ v. is_sought k v.kind) (todo ++ w ∷ [])
     counted k = grind (arith, counts k, h.counted k, more (λ v. is_sought k v.kind), low (λ v. is_sought k v.kind))
 
     -- it came last
@@ -43,7 +43,7 @@ module _ (t : Register) (w : Work) (todo : List Work) (h : AreCounted t todo) (s
 
   -- of every test one less passes, if it passed
   pub register_went : (left : List Work) (count : ℕ) → ((p : Work → Bool) → count_by p todo ≡ cond (p w) 1 0 + count_by p left)
-      → ((k : Sought) → count_at spots k ≡ cond (is_key k (sought_of w.kind)) (count_at t.spots k - 1) (count_at t.spots k))
+      → ((k : Sought) → found_at spots k ≡ cond (is_key k (sought_of w.kind)) (found_at t.spots k - 1) (found_at t.spots k))
       → count ≡ cond (w.id.place == t.last.place) (t.count - 1) t.count → AreCounted (record { spots = spots; last = t.last; count = count; rises = t.rises }) left
   register_went left count less counts counting = record {
     counted = λ k. grind (arith, counts k, h.counted k, less (λ v. is_sought k v.kind));

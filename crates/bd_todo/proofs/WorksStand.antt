@@ -4,7 +4,7 @@ use Rattle.bd_space.specs.{declared.space.Work.{Work}, declared.space.TodoList.{
 use Rattle.bd_space.specs.{Todo.{with_work, is_on, is_notice, is_call, death_of}, declared.step.Identity.{Identity}}
 use Rattle.bd_space.specs.Words.{without_first, is_some_and}
 use Rattle.bd_todo.specs.{declared.table.WorkTable.{WorkTable}, declared.spots.Sought.{Sought}}
-use Rattle.bd_todo.specs.{declared.spots.Sought.TheVariants.{Notice, Call, Death}, Rows.{works}, Spots.{is_sought}, SpotCounts.{count_at}}
+use Rattle.bd_todo.specs.{declared.spots.Sought.TheVariants.{Notice, Call, Death}, Rows.{works}, Spots.{is_sought}, FoundCounts.{found_at}}
 use Rattle.bd_todo.specs.{QueuesStand.{Stands, IsFront, work_at}, Stands.{WorksAre, RowsAre}, Registered.{Registered}}
 use Rattle.std.specs.{List.{list_any}, Prelude.{Option}}
 use Rattle.bd_space.specs.declared.space.WorkKind.TheVariants as kinds
@@ -58,14 +58,14 @@ notice_goes o l = sym (λ i. filter (λ (w : Work). not (notice_key o w.kind i))
 pub death_goes : (m : ℕ) (l : List Work) → filter (λ w. not (is_sought (Death m) w.kind)) l ≡ filter (λ w. not (is_some_and (death_of w.kind) (λ n. n == m))) l
 death_goes m l = sym (λ i. filter (λ (w : Work). not (death_key m w.kind i)) l)
 
-pub has_sought_is : (t : WorkTable) (k : Sought) (l : List Work) → WorksAre t l → nat_lt 0 (count_at t.register.spots k) ≡ list_any (λ w. is_sought k w.kind) l
+pub has_sought_is : (t : WorkTable) (k : Sought) (l : List Work) → WorksAre t l → nat_lt 0 (found_at t.register.spots k) ≡ list_any (λ w. is_sought k w.kind) l
 unfolding Registered
 has_sought_is t k l h = ap (nat_lt 0) (h.registered.counted k) ∙ any_counted (λ (w : Work). is_sought k w.kind) l
 
-pub has_notice_is : (t : WorkTable) (o : Identity) (l : List Work) → WorksAre t l → nat_lt 0 (count_at t.register.spots (Notice o.place o.index)) ≡ list_any (λ w. is_notice o w.kind) l
+pub has_notice_is : (t : WorkTable) (o : Identity) (l : List Work) → WorksAre t l → nat_lt 0 (found_at t.register.spots (Notice o.place o.index)) ≡ list_any (λ w. is_notice o w.kind) l
 has_notice_is t o l h = has_sought_is t (Notice o.place o.index) l h ∙ sym (λ i. list_any (λ (w : Work). notice_key o w.kind i) l)
 
-pub has_call_is : (t : WorkTable) (b : ℕ) (l : List Work) → WorksAre t l → nat_lt 0 (count_at t.register.spots (Call b)) ≡ list_any (λ w. is_call b w.kind) l
+pub has_call_is : (t : WorkTable) (b : ℕ) (l : List Work) → WorksAre t l → nat_lt 0 (found_at t.register.spots (Call b)) ≡ list_any (λ w. is_call b w.kind) l
 has_call_is t b l h = has_sought_is t (Call b) l h ∙ sym (λ i. list_any (λ (w : Work). call_key b w.kind i) l)
 
 -- what is in a slot goes, where it is all that is to go

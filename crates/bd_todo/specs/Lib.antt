@@ -7,4 +7,5 @@ pub mod Rows
 pub mod QueuesStand
 pub mod Spots
 pub mod SpotCounts
+pub mod FoundCounts
 pub mod Registered

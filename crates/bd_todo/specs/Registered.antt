@@ -2,14 +2,14 @@
 use Rattle.std.specs.{Prelude.{ℕ, ◌≡◌, ◌+◌, ◌*◌, ◌<◌, ◌≤◌, ◌==◌, true, List, count_by}, HashMap.{spare}}
 use Rattle.bd_ways.specs.Words.{Origin, Work}
 use Rattle.bd_space.specs.Todo.{is_item}
-use Rattle.bd_todo.specs.{declared.spots.Sought.{Sought}, declared.register.Register.{Register}, Spots.{is_sought}, SpotCounts.{count_at}}
+use Rattle.bd_todo.specs.{declared.spots.Sought.{Sought}, declared.register.Register.{Register}, Spots.{is_sought}, FoundCounts.{found_at}}
 
 -- identities in their order, by the place first
 abbrev pub rank : Origin → ℕ
 rank i = i.place * 18446744073709551616 + i.index
 
 pub record AreCounted (t : Register) (todo : List Work) : Type 0 where
-  pub counted : (k : Sought) → count_at t.spots k ≡ count_by (λ w. is_sought k w.kind) todo
+  pub counted : (k : Sought) → found_at t.spots k ≡ count_by (λ w. is_sought k w.kind) todo
   -- none was made at a later place than the last one
   pub at_last : t.count ≡ count_by (λ w. w.id.place == t.last.place) todo
   pub none_later : (place : ℕ) → t.last.place < place → count_by (λ w. w.id.place == place) todo ≡ 0
@@ -23,4 +23,4 @@ Registered t todo = AreCounted t todo
 
 -- how many more it takes without memory
 abbrev pub register_room : Register → ℕ
-register_room t = spare t.spots.spots
+register_room t = spare t.spots.others.spots

@@ -1,6 +1,7 @@
 //! The table of work items: what is still to be read, by whom.
 #![tactic(auto)]
 
+mod finder;
 mod finding;
 mod heads;
 mod queues;

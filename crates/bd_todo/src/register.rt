@@ -5,7 +5,8 @@ ghost use Rattle.bd_keys.specs.Tables.{Makes};
 ghost use Rattle.bd_space.specs.declared.space.Work.{Work};
 ghost use Rattle.bd_todo.specs.Registered.{rank, Registered, register_room};
 
-use crate::spots::{Spots, sought_of};
+use crate::finder::Finder;
+use crate::spots::sought_of;
 use bd_space::{Origin, Work};
 use std::alloc::{AllocError, Global};
 
@@ -13,7 +14,7 @@ use std::alloc::{AllocError, Global};
 #[derive(Debug, Drop)]
 pub struct Register {
     // Notices, calls and deaths, whatever their lists.
-    pub(crate) spots: Spots,
+    pub(crate) spots: Finder,
     // No work item was made at a later place than the last one, and so many were made at its place.
     pub(crate) last: Origin,
     pub(crate) count: u64,
@@ -33,7 +34,7 @@ impl Register {
         ensures { Registered result [] }
     {
         Register {
-            spots: Spots::new(alloc),
+            spots: Finder::new(alloc),
             last: Origin { place: 0, index: 0 },
             count: 0,
             rises: true,

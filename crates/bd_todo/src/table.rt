@@ -10,7 +10,7 @@ ghost use Rattle.bd_space.specs.Words as words;
 ghost use Rattle.bd_space.specs.Todo as spec;
 ghost use Rattle.bd_space.specs.Notices as notices;
 ghost use Rattle.bd_todo.specs.Spots as spots;
-ghost use Rattle.bd_todo.specs.SpotCounts as counts;
+ghost use Rattle.bd_todo.specs.FoundCounts as counts;
 
 use crate::heads::Heads;
 use crate::queues::{Queues, count_at, front};
@@ -188,7 +188,7 @@ impl WorkTable {
     // The slot of the work item that is looked up so, where there is just one: the latest noted, if that is still there.
     fn only(&self, key: Sought) -> Option<usize>
         ensures { IfSome result (λ x. (words.is_some_and (work_at self.now.queues x) (λ w. spots.is_sought key w.kind) ≡ true)
-            × (counts.count_at self.now.register.spots key ≡ 1)) }
+            × (counts.found_at self.now.register.spots key ≡ 1)) }
     {
         let spot = self.register.spots.spot(key)?;
         if spot.count == 1 && self.is_sought_at(spot.slot, key) {
