@@ -8,12 +8,10 @@ ghost use Rattle.bd_space.specs.declared.space.Turn as declared;
 ghost use Rattle.bd_space.specs.Words.{changed, same};
 ghost use Rattle.bd_turns.specs.{Turn.{hand_turn}, Room.{Uses, turn_room}};
 
-use crate::spot::{Mark, Spot, spot_at};
+use crate::spot::{Mark, Spot, Spots};
 use bd_chains::{Lists, Numbers};
-use bd_keys::insert_reserved;
 use bd_space::{Identity, Turn};
 use std::alloc::{AllocError, Global};
-use std::collections::HashMap;
 
 /// The one-way calls of a driver whose buffers live.
 pub struct TurnTable {
@@ -22,7 +20,7 @@ pub struct TurnTable {
     // In each process's window.
     pub(crate) windows: Lists<Numbers<u64>, Mark>,
     // By where they were made.
-    pub(crate) spots: HashMap<u64, Spot>,
+    pub(crate) spots: Spots,
     // The object whose call went last: of all objects' lists this one alone may be open with nothing on it.
     pub(crate) last: Identity,
 }
@@ -51,7 +49,7 @@ impl TurnTable {
         TurnTable {
             objects: Lists::new(alloc, Numbers::new(alloc)),
             windows: Lists::new(alloc, Numbers::new(alloc)),
-            spots: HashMap::new(alloc),
+            spots: Spots::new(alloc),
             last: Identity { place: 0, index: 0 },
         }
     }
@@ -82,7 +80,7 @@ impl TurnTable {
             receiver: turn.receiver,
         };
         let mark = self.windows.push(turn.receiver, mark, false);
-        insert_reserved(&mut self.spots, turn.made, Spot { call, mark });
+        self.spots.insert(turn.made, Spot { call, mark });
     }
 
     /// The oldest one-way call on an object.
@@ -97,7 +95,7 @@ impl TurnTable {
         ensures stands { Makes self.old self.new (λ l. changed (λ t. t.made == made) hand_turn l) }
         ensures uses { Uses self.old self.new 0 }
     {
-        if let Some(spot) = spot_at(&self.spots, made) {
+        if let Some(spot) = self.spots.spot(made) {
             if let Some(turn) = self.objects.chains.get(spot.call) {
                 let turn = Turn {
                     handed: true,
@@ -132,7 +130,7 @@ impl TurnTable {
         ensures stands { Makes self.old self.new (λ l. filter (λ t. not (t.made == made)) l) }
         ensures uses { Uses self.old self.new 0 }
     {
-        if let Some(spot) = self.spots.remove(&made) {
+        if let Some(spot) = self.spots.remove(made) {
             let _mark = self.windows.chains.remove(spot.mark);
             if let Some(turn) = self.objects.chains.remove(spot.call) {
                 self.leave(turn.target);

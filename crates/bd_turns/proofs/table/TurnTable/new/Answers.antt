@@ -9,7 +9,7 @@ returns c = record {
     on_objects = c.new-2.ensures c.new.ensures by_object (λ _. false);
     in_windows = c.new-4.ensures c.new-3.ensures by_window (λ _. false);
     distinct = λ i j d lt h. absurd (omega arith);
-    spots_are = λ m. search arith;
+    spots_are = c.new-5.ensures;
   };
   turns_are = refl;
 }

@@ -8,4 +8,4 @@ returns-clause-stands c = λ l new h.
     turns_pushed c.args.self.now _ c.args.turn (record { call = c.push-call.result; mark = c.push-mark.result }) l new h
     (λ rs s. c.push-call.ensures.stands by_object (λ _. false) rs refl refl s)
     (λ rs s. c.push-mark.ensures.stands by_window (λ _. false) rs refl refl s)
-    c.insert_reserved.ensures.put
+    c.insert.ensures.put

@@ -1,7 +1,7 @@
 use Rattle.std.proofs.Common.{ℕ, ◌≤◌, ◌+◌, ◌==◌, ◌∙◌, false, map, refl, ap, arith}
 use Rattle.std.specs.{Prelude.{min}, HashMap.{spare}, List.{list_any}}
 use Rattle.bd_chains.specs.Lists.{lists_room}
-use Rattle.bd_turns.specs.{Entries.{by_window, mark_row}, Room.{turn_room, turn_count}}
+use Rattle.bd_turns.specs.{Entries.{by_window, mark_row}, Room.{turn_room, turn_count}, Spots.{spot_room}}
 use Rattle.bd_turns.proofs.{Entries.{marks_to, none_received}, Changes.{turns_kept}}
 use Rattle.bd_turns.proofs.table.TurnTable.remove_received.Goals as goal
 
@@ -19,7 +19,7 @@ returns-clause-uses c =
     let w = c.give_back.new.self in
     let u = c.pop_received.ensures.uses in
     record {
-      room = wider (turn_room c.args.self.now) (lists_room m.objects.chains (spare m.objects.numbers.all)) (lists_room m.windows.chains (spare m.windows.numbers.all)) (lists_room w.chains (spare w.numbers.all)) (spare m.spots) u.room c.give_back.ensures.uses;
+      room = wider (turn_room c.args.self.now) (lists_room m.objects.chains (spare m.objects.numbers.all)) (lists_room m.windows.chains (spare m.windows.numbers.all)) (lists_room w.chains (spare w.numbers.all)) (spot_room m.spots) u.room c.give_back.ensures.uses;
       count = u.count;
     }
 
