@@ -128,7 +128,18 @@ impl ThreadTable {
         }
     }
 
+    // The thread of a seat, wherever its row is.
+    #[inline(never)]
+    fn placed(&self, seat: u32) -> Option<Thread>
+        ensures { result ≡ thread_in (listed self.now) seat }
+    {
+        let row = self.places.get(&seat)?;
+        self.rows[*row]
+    }
+
     /// The thread of a seat.
+    // Put into its callers, as each step asks for one: what the map takes is in another function, which is mostly not called.
+    #[inline(always)]
     pub fn thread(&self, seat: u32) -> Option<Thread>
         ensures { result ≡ thread_in (listed self.now) seat }
     {
@@ -138,8 +149,7 @@ impl ThreadTable {
                 return Some(*thread);
             }
         }
-        let row = self.places.get(&seat)?;
-        self.rows[*row]
+        self.placed(seat)
     }
 
     /// The seats of a process's threads. Fails for want of memory alone, and never where there are none.
