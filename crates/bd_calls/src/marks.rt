@@ -102,6 +102,7 @@ impl Marks {
     }
 
     /// The list may be filled or emptied from now on. Takes no memory: others are marked with it only where there is no room.
+    #[inline(always)]
     pub(crate) fn mark(&mut self, todo: &WorkTable, list: TodoList)
         ensures marked { spec.AreMarked (λ l. same_list l list) self.old self.new }
         ensures recalls { spec.Goes self.old self.new todo.now }

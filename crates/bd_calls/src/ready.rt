@@ -102,6 +102,7 @@ impl ReadySeats {
     }
 
     // Whether there is anything on the list of the seat's thread.
+    #[inline(always)]
     fn note_own(&mut self, seat: u32, has: bool)
         ensures { (at : ℕ) → spec.seen_at self.new at ≡ option_map (spec.noted (OfThread seat) has at) (spec.seen_at self.old at) }
     {
@@ -156,6 +157,7 @@ impl ReadySeats {
     }
 
     // Whether there is anything on the list of the process.
+    #[inline(never)]
     fn note_members(&mut self, process: u64, has: bool)
         ensures { (at : ℕ) → spec.seen_at self.new at ≡ option_map (spec.with_shared process has) (spec.seen_at self.old at) }
     {
@@ -168,6 +170,7 @@ impl ReadySeats {
     }
 
     /// There is anything on the list from now on, or nothing.
+    #[inline(always)]
     pub(crate) fn note(&mut self, list: TodoList, has: bool)
         ensures { (at : ℕ) → spec.seen_at self.new at ≡ option_map (spec.noted list has at) (spec.seen_at self.old at) }
     {
