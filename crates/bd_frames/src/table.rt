@@ -114,12 +114,25 @@ impl FrameTable {
         Some(self.rows[index_of(&self.rows, made)?].frame)
     }
 
-    /// The newest frame in which the thread takes part.
-    pub fn newest_of(&self, seat: u32) -> Option<Frame>
+    // The newest frame in which the thread takes part: it is looked for from the top of its stack.
+    #[inline(never)]
+    fn newest_below(&self, seat: u32) -> Option<Frame>
         ensures { Tells self.now result (λ l. newest_in l seat) }
     {
         let top = self.stacks.top_of(seat);
         Some(self.rows[newest_part(&self.rows, seat, top)?].frame)
+    }
+
+    /// The newest frame in which the thread takes part.
+    // Put into its callers: mostly no call is open, and nothing is looked for.
+    #[inline(always)]
+    pub fn newest_of(&self, seat: u32) -> Option<Frame>
+        ensures { Tells self.now result (λ l. newest_in l seat) }
+    {
+        if self.rows.is_empty() {
+            return None;
+        }
+        self.newest_below(seat)
     }
 
     /// Whether the thread takes part in a frame.
