@@ -115,7 +115,16 @@ impl Spots {
         self.spots.reserve(more)
     }
 
+    // Where the latest was put that is looked up so, by its hash.
+    #[inline(never)]
+    fn hashed(&self, key: Sought) -> Option<Spot>
+        ensures { result ≡ get_by (same_sought key) self.now.spots }
+    {
+        self.spots.get(&key).copied()
+    }
+
     /// Where the latest was put that is looked up so, and how many there are.
+    #[inline(always)]
     pub fn spot(&self, key: Sought) -> Option<Spot>
         ensures { result ≡ get_by (same_sought key) self.now.spots }
     {
@@ -123,7 +132,7 @@ impl Spots {
         if self.spots.is_empty() {
             return None;
         }
-        self.spots.get(&key).copied()
+        self.hashed(key)
     }
 
     /// Whether any is looked up so.

@@ -59,14 +59,23 @@ impl Spots {
         self.others.reserve(more)
     }
 
+    // Where the call stands by its hash.
+    #[inline(never)]
+    fn hashed(&self, made: u64) -> Option<Spot>
+        ensures { result ≡ in_map self.now.others made }
+    {
+        self.others.get(&made).copied()
+    }
+
     // Where the call stands by the map, which mostly is empty: that takes no hash.
+    #[inline(always)]
     fn other(&self, made: u64) -> Option<Spot>
         ensures { result ≡ in_map self.now.others made }
     {
         if self.others.is_empty() {
             return None;
         }
-        self.others.get(&made).copied()
+        self.hashed(made)
     }
 
     /// Where the call made at this place stands.
