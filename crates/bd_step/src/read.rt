@@ -37,13 +37,6 @@ enum Taken {
     Many(Vec<Work>),
 }
 
-// What a read takes: the work items, and the bytes of their returns after those of a BR_NOOP.
-#[derive(Drop)]
-struct Taking {
-    works: Taken,
-    stream: Vec<u8>,
-}
-
 // Both, one after the other.
 fn pair_of(alloc: Global, first: Work, second: Work) -> Result<Vec<Work>, AllocError>
     ensures { IfOk result (λ works. works.items ≡ first ∷ second ∷ []) }
@@ -139,7 +132,7 @@ fn made_of(buffer: &Option<Lent<'_>>) -> Option<u64>
 fn copied(alloc: Global, bytes: &[u8]) -> Result<Bytes, AllocError>
     ensures { IfOk result (λ b. b ≡ bytes.now) }
 {
-    let mut items = Vec::new(alloc);
+    let mut items = Vec::with_capacity(alloc, bytes.len())?;
     items.extend_from_slice(bytes)?;
     Ok(Bytes::new(items))
 }
@@ -166,28 +159,22 @@ fn got(alloc: Global, buffer: Option<Lent<'_>>, stream: Vec<u8>) -> Result<StepA
 // What a reading of one work item mostly has: the Noop and the longest return.
 const LONGEST_OF_ONE: usize = 4 + 68;
 
-// Nothing is taken yet.
-fn begin(alloc: Global) -> Result<Taking, AllocError>
-    ensures works { IfOk result (λ t. works_in t.works ≡ []) }
-    ensures stream { IfOk result (λ t. t.stream.items ≡ return_bytes Noop) }
+// The bytes of a reading to which nothing is taken yet.
+fn begin(alloc: Global) -> Result<Vec<u8>, AllocError>
+    ensures { IfOk result (λ stream. stream.items ≡ return_bytes Noop) }
 {
     let mut stream = Vec::with_capacity(alloc, LONGEST_OF_ONE)?;
     if write_return(&Return::Noop, &mut stream).is_err() {
         return Err(AllocError);
     }
-    Ok(Taking {
-        works: Taken::Nothing,
-        stream,
-    })
+    Ok(stream)
 }
 
-impl Taking {
-    // Fewer bytes are left than the longest return has.
-    fn is_full(&self, limit: u32) -> bool
-        ensures { result ≡ nat_lt (limit - length self.now.stream.items) 68 }
-    {
-        (limit as usize).saturating_sub(self.stream.len()) < 68
-    }
+// Fewer bytes are left than the longest return has.
+fn is_full(stream: &Vec<u8>, limit: u32) -> bool
+    ensures { result ≡ nat_lt (limit - length stream.now.items) 68 }
+{
+    (limit as usize).saturating_sub(stream.len()) < 68
 }
 
 impl Tables {
@@ -210,32 +197,45 @@ impl Tables {
     }
 
     // One work item more is taken.
-    fn select_one(&self, work: Work, taking: &mut Taking) -> Result<(), AllocError>
-        ensures works { OnOk result (works_in taking.new.works ≡ works_in taking.old.works ++ work ∷ []) }
+    fn select_one(
+        &self,
+        work: Work,
+        works: &mut Taken,
+        stream: &mut Vec<u8>,
+    ) -> Result<(), AllocError>
+        ensures works { OnOk result (works_in works.new ≡ works_in works.old ++ work ∷ []) }
         ensures stream { OnOk result
-            (TellsBefore self.now taking.new.stream.items (λ s. taking.old.stream.items ++ returns.bytes_read s work)) }
+            (TellsBefore self.now stream.new.items (λ s. stream.old.items ++ returns.bytes_read s work)) }
     {
-        self.append_work(work.kind, &mut taking.stream)?;
-        taking.works.push(self.alloc, work)
+        self.append_work(work.kind, stream)?;
+        works.push(self.alloc, work)
     }
 
-    // What a read takes off a list: item after item, while at least 68 bytes are left and none ends the read.
-    fn select(&self, list: TodoList, limit: u32) -> Result<Taking, AllocError>
-        ensures { IfOk result
-            (λ t. (s : Space) → Before self.now s
-            → AreTaken s limit (todo.work_on s.todo (Some list)) (works_in t.works) t.stream.items) }
+    // What a read takes off a list: item after item, while at least 68 bytes are left and none ends the read. They are put where
+    // the reader keeps them: a work item is long, and isn't moved twice.
+    fn select(
+        &self,
+        list: TodoList,
+        limit: u32,
+        works: &mut Taken,
+        stream: &mut Vec<u8>,
+    ) -> Result<(), AllocError>
+        requires none { works_in works.old ≡ [] }
+        requires begun { stream.old.items ≡ return_bytes Noop }
+        ensures { OnOk result
+            ((s : Space) → Before self.now s
+            → AreTaken s limit (todo.work_on s.todo (Some list)) (works_in works.new) stream.new.items) }
     {
-        let mut taking = begin(self.alloc)?;
         for work in self.calls.works_on(list) {
-            if taking.is_full(limit) {
-                return Ok(taking);
+            if is_full(stream, limit) {
+                return Ok(());
             }
-            self.select_one(work, &mut taking)?;
+            self.select_one(work, works, stream)?;
             if ends_read(work.kind) {
-                return Ok(taking);
+                return Ok(());
             }
         }
-        Ok(taking)
+        Ok(())
     }
 
     // The buffer that is handed over by reading these.
@@ -298,7 +298,9 @@ impl Tables {
         ensures err { OnErr result (IsKept self.old self.new) }
         ensures told { KeepsTold self.old self.new }
     {
-        let Taking { works, stream } = self.select(list, limit)?;
+        let mut works = Taken::Nothing;
+        let mut stream = begin(self.alloc)?;
+        self.select(list, limit, &mut works, &mut stream)?;
         let buffer = self.buffer_taken(works.as_slice());
         let made = made_of(&buffer);
         *answer = got(self.alloc, buffer, stream)?;

@@ -17,7 +17,7 @@ pub returns-clause-ok : goal.returns-clause-ok
 unfolding read_taking
 returns-clause-ok g c = meets _ _ _ _ _ (λ s h by.
     let all = taken s (c.args.limit - 4) (work_on s.todo (Some c.args.list)) in
-    let t = c.in_ok-works.ensures s h in
+    let t = c.in_ok-select.ensures s h in
     let buffer = c.buffer_taken-buffer.ensures s (within _ s h) in
     let made = c.made_of-made.ensures ∙ ap (option_map made_of_buffer) buffer
     ∙ ap (λ (ws : List Work). option_map made_of_buffer (buffer_taken s ws)) (c.as_slice.ensures.value ∙ sym c.as_slice-3.ensures.value) in

@@ -6,7 +6,7 @@ use Rattle.bd_step.proofs.tables.Tables.select.Goals as goal
 pub loop-work-init : goal.loop-work-init
 loop-work-init c = λ s h.
     at_start s c.args.limit (work_on s.todo (Some c.args.list)) _ _ _ (c.into_iter-work-iterator.ensures.into_iter_gives ∙ c.works_on-work-items.ensures s h.calls_stand)
-    c.in_ok-taking.ensures.works c.in_ok-taking.ensures.stream
+    c.requires.none c.requires.begun
 
 pub loop-work-preserved : goal.loop-work-preserved
 loop-work-preserved c = λ s h.

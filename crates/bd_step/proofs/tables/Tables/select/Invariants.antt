@@ -7,4 +7,4 @@ use Rattle.bd_step.proofs.TakingItems.{IsAt}
 use Rattle.bd_step.proofs.tables.Tables.select.Given as goal
 
 abbrev pub invariant-loop-work : goal.invariant-loop-work
-invariant-loop-work l = (s : Space) → Before l.self s → IsAt s l.limit (work_on s.todo (Some l.fn.list)) l.work-iterator (works_in l.taking.works) l.taking.stream.items
+invariant-loop-work l = (s : Space) → Before l.self s → IsAt s l.limit (work_on s.todo (Some l.fn.list)) l.work-iterator (works_in l.works) l.stream.items
