@@ -90,6 +90,7 @@ impl Tables {
     }
 
     // The buffer comes in, and a one-way call with it.
+    #[inline(always)]
     pub(crate) fn add_buffer(&mut self, buffer: Lent<'_>)
         requires turns { 1 ≤ call_rooms.turn_room self.old.calls }
         requires room { HasBufferRoom self.old.windows buffer.receiver buffer.start buffer.size }

@@ -154,6 +154,7 @@ impl<'a> Laid<'a> {
 
 impl Tables {
     // Where the sending goes in its receiver's window. Nothing is copied where there is no place for it.
+    #[inline(always)]
     fn placed_for<'a>(
         &self,
         sent: &TransactionData,
@@ -252,6 +253,7 @@ impl Tables {
     }
 
     // The buffer of a delivery.
+    #[inline(always)]
     fn buffer_of<'a>(
         &self,
         actor: Actor,
@@ -396,6 +398,7 @@ impl Tables {
     }
 
     // Puts the notices and the buffer in, where the names are known.
+    #[inline(always)]
     fn fill(&mut self, actor: Actor, sent: &TransactionData, delivery: Delivery<'_>)
         requires deliverable { IsDeliverable self.old sent.now delivery }
         requires turns { 1 ≤ call_rooms.turn_room self.old.calls }

@@ -15,6 +15,7 @@ use bd_uapi::{Command, Fault};
 
 impl Tables {
     // The step of a command.
+    #[inline(always)]
     #[tactic(auto, unfolding(bd_space::specs::Steps::command_step))]
     fn command(
         &mut self,

@@ -49,6 +49,7 @@ fn end_handed(objects: &mut ObjectTable, windows: &mut Windows, works: Works<'_>
 
 impl Tables {
     // The thread with its process.
+    #[inline(always)]
     fn actor_of(&self, thread: Thread) -> Option<Actor>
         ensures found { Tells self.now result (λ s. seats.actor_of s thread) }
         ensures pid { IfSome result (λ a. is_pid a.process.pid ≡ true) }
@@ -60,6 +61,7 @@ impl Tables {
     }
 
     /// The live thread of a seat, with its process.
+    #[inline(always)]
     #[tactic(auto, unfolding(bd_space::specs::Seats::actor))]
     pub(crate) fn actor(&self, seat: u32) -> Option<Actor>
         ensures found { Tells self.now result (λ s. seats.actor s seat) }
