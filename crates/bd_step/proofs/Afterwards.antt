@@ -7,7 +7,8 @@ use Rattle.bd_space.specs.declared.step.Identity.{Identity}
 use Rattle.bd_space.specs.declared.space.Frame.{Frame}
 use Rattle.bd_space.specs.declared.space.Actor.{Actor}
 use Rattle.bd_space.specs.Space.{Space}
-use Rattle.bd_space.specs.Delivery.{Delivery}
+use Rattle.bd_space.specs.Delivery.{Delivery, delivered}
+use Rattle.bd_space.specs.Frames.{closed}
 use Rattle.bd_space.specs.Outcomes.{completed}
 use Rattle.bd_space.specs.Transactions.{transacted}
 use Rattle.bd_space.specs.Replies.{replied}
@@ -15,18 +16,24 @@ use Rattle.bd_ways.specs.Local.{follow_of, ripen_of, close_up, no_name, objects_
 use Rattle.bd_laws.specs.Lists.{In, Pairs}
 use Rattle.bd_laws.specs.Objects.{Earlier}
 use Rattle.bd_laws.specs.Tidy.{IsTidy}
+use Rattle.bd_laws.specs.Quiet.{IsFollowed}
 use Rattle.bd_laws.proofs.Objects.{transacted_kept, replied_kept}
+use Rattle.bd_laws.proofs.KeptBefore.ObjectsKept.{delivered_kept, closed_before, closed_sends}
+use Rattle.bd_laws.proofs.Sendings.{sending_sends}
+use Rattle.bd_laws.proofs.FollowingIsLocal.Sent.{Delivers, delivered_elsewhere}
 use Rattle.bd_laws.proofs.Checks.{transaction_checked, reply_checked}
 use Rattle.bd_laws.proofs.Next.{calm}
 use Rattle.bd_laws.proofs.Framing.{one_each}
 use Rattle.bd_laws.proofs.Abandoned.{OneEach}
 use Rattle.bd_laws.proofs.Stacks.{replied_childless}
-use Rattle.bd_laws.proofs.Pings.{transaction_delivers}
+use Rattle.bd_laws.proofs.Pings.{transaction_delivers, sending_made_sent}
 use Rattle.bd_laws.proofs.Sending.{one_way_local, two_way_local}
 use Rattle.bd_laws.proofs.Replying.{reply_local}
 use Rattle.bd_step.specs.Meets.{IsSending, IsServing, IsReplying}
 use Rattle.bd_step.specs.Deliveries.{CanSend, CanCall}
 use Rattle.bd_step.specs.Freed.{ripen_next}
+use Rattle.bd_step.specs.Known.{are_known_before}
+use Rattle.bd_step.proofs.Known.{known_elsewhere, transacted_elsewhere, replied_elsewhere, looked_at_less}
 use Rattle.bd_step.proofs.New.{can_send}
 use Rattle.bd_step.proofs.Finding.{found_lives}
 use Rattle.bd_step.proofs.Stacked.{tidy_takes}
@@ -51,8 +58,9 @@ module _ (s : Space) (a : Actor) (d : TransactionData) (v : Delivery) (p : IsSen
   pub sent_ordered : Pairs Earlier (transacted s a d v).objects
   sent_ordered = (transacted_kept s a d p.checked.0 v p.tidy.before.objects p.checked.1).in_order
 
-  pub sent_followed : completed (transacted s a d v) ≡ follow_of no_name (objects_of_items v.sending.items) (ripen_next (if v.one_way then v.target else None) (transacted s a d v))
-  sent_followed = at v.one_way refl
+  -- at the objects that are sent
+  all_followed : completed (transacted s a d v) ≡ follow_of no_name (objects_of_items v.sending.items) (ripen_next (if v.one_way then v.target else None) (transacted s a d v))
+  all_followed = at v.one_way refl
     where
       at : (b : Bool) → v.one_way ≡ b
           → completed (transacted s a d v) ≡ follow_of no_name (objects_of_items v.sending.items) (ripen_next (if b then v.target else None) (transacted s a d v))
@@ -61,6 +69,25 @@ module _ (s : Space) (a : Actor) (d : TransactionData) (v : Delivery) (p : IsSen
           one_way_local s a d v (calm s p.tidy.quiet) p.tidy.before.objects (transaction_delivers s a d p.checked.0 v p.tidy.before.objects p.checked.1) p.tidy.quiet.settled t.object one t.target
           ∙ ap (λ (o : Option Identity). follow_of no_name (objects_of_items v.sending.items) (ripen_next o (transacted s a d v))) (sym t.target)
       at false two = two_way_local s a d v (calm s p.tidy.quiet) p.tidy.before.objects (transaction_delivers s a d p.checked.0 v p.tidy.before.objects p.checked.1) p.tidy.quiet.settled two
+
+  delivered_ordered : Pairs Earlier (delivered s a d v).objects
+  delivered_ordered =
+      let t = transaction_checked s a d p.checked.0 v p.checked.1 in
+      let kept = delivered_kept s a d v p.tidy.before.objects (sending_sends s a.process.made d p.checked.0 v.sending t.sends)
+      (λ o e. let is : t.object ≡ o = (let k = t.target in cc) in (t.owned.object, t.owned.here, t.owned.id ∙ is)) in
+      kept.in_order
+
+  -- so it does at those that were known before
+  pub sent_followed : completed (transacted s a d v) ≡ follow_of no_name (are_known_before s.steps v.sending.items) (ripen_next (if v.one_way then v.target else None) (transacted s a d v))
+  sent_followed =
+      let target : Option Identity = if v.one_way then v.target else None in
+      let delivers = transaction_delivers s a d p.checked.0 v p.tidy.before.objects p.checked.1 in
+      let followed = p.tidy.quiet.followed in
+      all_followed
+      ∙ looked_at_less (objects_of_items v.sending.items) (are_known_before s.steps v.sending.items) (ripen_next target (transacted s a d v))
+      (transacted_elsewhere s a d v (objects_of_items v.sending.items) (delivered_elsewhere s v followed p.tidy.before.objects delivers a d) target)
+      (transacted_elsewhere s a d v (are_known_before s.steps v.sending.items)
+      (known_elsewhere s v followed p.tidy.before.objects delivers a d delivered_ordered) target)
 
 -- ---- a reply
 
@@ -80,5 +107,40 @@ module _ (s : Space) (a : Actor) (d : TransactionData) (f : Frame) (v : Delivery
   replied_ordered = (replied_kept s a d p.checked.0 f v p.serving.tidy.before.objects p.checked.1).in_order
 
   -- frames close from the parent of the one that ends
-  pub replied_followed : (let z = follow_of no_name (objects_of_items v.sending.items) (replied s a d f v) in completed (replied s a d f v) ≡ close_up (length z.frames) f.parent z)
-  replied_followed = reply_local s a d p.checked.0 f v p.serving.tidy p.checked.1 (one_frame_each s p.serving.tidy) (served_there s a.thread.seat f p.serving)
+  all_replied : (let z = follow_of no_name (objects_of_items v.sending.items) (replied s a d f v) in completed (replied s a d f v) ≡ close_up (length z.frames) f.parent z)
+  all_replied = reply_local s a d p.checked.0 f v p.serving.tidy p.checked.1 (one_frame_each s p.serving.tidy) (served_there s a.thread.seat f p.serving)
+
+  abbrev x : Space
+  x = closed s f.made
+
+  x_followed : IsFollowed x
+  unfolding closed
+  x_followed =
+      let h = p.serving.tidy.quiet.followed in
+      record { names = h.names; objects = h.objects; deaths = h.deaths; notices = h.notices; tellings = h.tellings; made = h.made }
+
+  x_delivers : Delivers x v
+  unfolding closed
+  x_delivers =
+      let t = reply_checked s a d p.checked.0 f v p.checked.1 in
+      let sends = sending_sends s a.process.made d p.checked.0 v.sending t.sends in
+      record { sent = sending_made_sent s a.process.made d p.checked.0 v.sending t.sends; new = sends.makes.place; target = λ o e. (let none = t.target in absurd (cc)) }
+
+  x_ordered : Pairs Earlier (delivered x a d v).objects
+  x_ordered =
+      let t = reply_checked s a d p.checked.0 f v p.checked.1 in
+      let sends = sending_sends s a.process.made d p.checked.0 v.sending t.sends in
+      let kept = delivered_kept x a d v (closed_before s f.made p.serving.tidy.before.objects) (closed_sends s f.made a.process.made v.sending.made v.sending.items sends)
+      (λ o e. let none = t.target in absurd (cc)) in
+      kept.in_order
+
+  looked : follow_of no_name (objects_of_items v.sending.items) (replied s a d f v) ≡ follow_of no_name (are_known_before s.steps v.sending.items) (replied s a d f v)
+  unfolding closed
+  looked =
+      let kept = closed_before s f.made p.serving.tidy.before.objects in
+      looked_at_less (objects_of_items v.sending.items) (are_known_before s.steps v.sending.items) (replied s a d f v)
+      (replied_elsewhere s a d f v (objects_of_items v.sending.items) (delivered_elsewhere x v x_followed kept x_delivers a d))
+      (replied_elsewhere s a d f v (are_known_before s.steps v.sending.items) (known_elsewhere x v x_followed kept x_delivers a d x_ordered))
+
+  pub replied_followed : (let z = follow_of no_name (are_known_before s.steps v.sending.items) (replied s a d f v) in completed (replied s a d f v) ≡ close_up (length z.frames) f.parent z)
+  replied_followed = all_replied ∙ ap (λ (z : Space). close_up (length z.frames) f.parent z) looked

@@ -1,5 +1,5 @@
 -- How tables go on standing through the parts of a delivery.
-use Rattle.std.proofs.Common.{◌≡◌, ℕ, true, ◌+◌, ◌<◌, ◌≤◌, ◌&&◌, not, Bool, cond, List, All, ◌++◌, Option, take, drop, length, get_or, ap, sym, subst, ◌∙◌, arith, filter, map}
+use Rattle.std.proofs.Common.{◌≡◌, ℕ, refl, true, ◌+◌, ◌<◌, ◌≤◌, ◌&&◌, not, Bool, cond, List, All, ◌++◌, Option, take, drop, length, get_or, ap, sym, subst, ◌∙◌, arith, filter, map}
 use Rattle.std.specs.Prelude.{Some, None, IfSome}
 use Rattle.std.proofs.lemmas.List.{take_all}
 use Rattle.std.specs.List.{fold}
@@ -22,7 +22,9 @@ use Rattle.bd_space.specs.Names.{assign_numbers, names_go, has_number_past_limit
 use Rattle.bd_uapi.specs.Kinds.{is_own, is_strong_kind}
 use Rattle.bd_space.specs.Parcels.{object_of_item, translated, translation}
 use Rattle.bd_space.specs.Todo.{is_notice}
-use Rattle.bd_space.specs.Delivery.{Delivery, make_objects, refer, with_carried, withdraw_notice, buffer_of, add_buffer, own_notices}
+use Rattle.bd_space.specs.Notices.{with_notice}
+use Rattle.bd_space.specs.declared.space.TodoList.TheVariants.{OfThread}
+use Rattle.bd_space.specs.Delivery.{Delivery, make_objects, refer, with_carried, withdraw_notice, add_notice, buffer_of, add_buffer, own_notices}
 use Rattle.bd_objects.specs.declared.table.ObjectTable.{ObjectTable}
 use Rattle.bd_objects.specs.Stands as objects
 use Rattle.bd_objects.specs.New.{IsDelivered}
@@ -38,6 +40,15 @@ takes_notice objects x = is_own x.flat.kind && is_strong_kind x.flat.kind && is_
 pub withdrawn : (objects : List Object) (todo : List Work) (x : Item) (b : Bool) → b ≡ takes_notice objects x
     → cond b (filter (λ w. not (is_notice x.object w.kind)) todo) todo ≡ withdraw_notice objects todo x
 withdrawn objects todo x b e = ap (λ (v : Bool). cond v (filter (λ w. not (is_notice x.object w.kind)) todo) todo) e
+
+-- the object whose Notice is wanted
+pub wanted_object : (f : Option Object) (w : Object → Bool) → is_some_and f w ≡ true → (x : Object) × (f ≡ Some x) × (w x ≡ true)
+wanted_object None w e = absurd (cc)
+wanted_object (Some x) w e = (x, refl, e)
+
+pub notice_added : (s : Space) (seat : ℕ) (todo : List Work) (x : Item) (o : Object) → is_own x.flat.kind ≡ true → object_in s.objects x.object ≡ Some o
+    → with_notice s.steps s.processes s.references (OfThread seat) todo o ≡ add_notice s seat todo x
+notice_added s seat todo x o own found = rw (own, found) refl
 
 -- one item more
 pub todo_more : (n : ℕ) (t : Tables) (s : Space) (f : List Work → Item → List Work) (items : List Item) (k : ℕ) (d : Item) → k < length items

@@ -1,5 +1,5 @@
 -- What follows at some objects: first they go, or their Notices, and then the Notices that are missing are made.
-use Rattle.std.proofs.Common.{◌≡◌, ℕ, ◌+◌, ◌<◌, Bool, true, false, cond, not, ◌&&◌, ◌||◌, List, [], ◌∷◌, Option, Some, None, option_and_then, arith, length, get_or, take, refl, ap, sym, subst, ◌∙◌, filter, map}
+use Rattle.std.proofs.Common.{◌≡◌, ℕ, ◌+◌, ◌<◌, Bool, true, false, cond, not, ◌&&◌, ◌||◌, List, [], ◌∷◌, Option, Some, None, option_and_then, arith, length, get_or, take, refl, ap, sym, subst, ◌∙◌, filter}
 use Rattle.std.specs.List.{fold, filter_map, cons_option}
 use Rattle.std.specs.Option.{is_some}
 use Rattle.std.proofs.Math.Bool.{or-true, or-false}
@@ -10,7 +10,6 @@ use Rattle.std.proofs.lemmas.List.Sums.{fold_more}
 use Rattle.bd_space.specs.declared.step.Identity.{Identity}
 use Rattle.bd_space.specs.declared.space.Object.{Object}
 use Rattle.bd_space.specs.declared.space.Name.{Name}
-use Rattle.bd_space.specs.declared.space.Item.{Item}
 use Rattle.bd_space.specs.declared.space.DeathNotification.{DeathNotification}
 use Rattle.bd_space.specs.declared.space.Work.{Work}
 use Rattle.bd_space.specs.declared.space.WorkKind.{WorkKind}
@@ -19,11 +18,10 @@ use Rattle.bd_space.specs.declared.space.TodoList.TheVariants.{OfProcess}
 use Rattle.bd_space.specs.Words.{same, is_some_and, when}
 use Rattle.bd_space.specs.Space.{Space}
 use Rattle.bd_space.specs.References.{object_in, stays_in}
-use Rattle.bd_space.specs.Parcels.{object_of_item}
 use Rattle.bd_space.specs.ReadItems.{is_told_by}
 use Rattle.bd_space.specs.Todo.{notice_of, with_work, is_notice}
 use Rattle.bd_space.specs.Notices.{wants_notice, has_notice_in, with_notice, still_due}
-use Rattle.bd_ways.specs.Local.{ObjectTest, names_go_of, objects_go_of, deaths_go_of, is_touched, work_goes_of, notify_of, follow_of, no_name, at_object, is_among, objects_of_items}
+use Rattle.bd_ways.specs.Local.{ObjectTest, names_go_of, objects_go_of, deaths_go_of, is_touched, work_goes_of, notify_of, follow_of, no_name, at_object, is_among}
 use Rattle.bd_laws.specs.Lists.{In, Pairs}
 use Rattle.bd_laws.specs.Objects.{is_earlier, Earlier, NotLater}
 use Rattle.bd_laws.proofs.Lists.{in_last, in_filter, any_found, any_in, pairs_filter}
@@ -47,23 +45,7 @@ among_next os k d lt = fun_ext (λ i.
 pub among_one : (o : Identity) → is_among (o ∷ []) ≡ at_object o
 among_one o = fun_ext (λ i. or-false (at_object o i))
 
--- the objects of a parcel, and those of whose Notices these are
-pub among_items : (items : List Item) → is_among (map object_of_item items) ≡ objects_of_items items
-among_items items = fun_ext (λ o. each o items)
-  where
-    sides : (a b : Identity) → same a b ≡ same b a
-    sides a b = at (same a b) refl (same b a) refl
-      where
-        at : (c : Bool) → same a b ≡ c → (d : Bool) → same b a ≡ d → c ≡ d
-        at true e true f = refl
-        at true e false f = let yes_it = eq_same b a (sym (same_eq a b e)) in absurd (cc)
-        at false e true f = let yes_it = eq_same a b (sym (same_eq b a f)) in absurd (cc)
-        at false e false f = refl
-
-    each : (o : Identity) (items : List Item) → is_among (map object_of_item items) o ≡ objects_of_items items o
-    each o [] = refl
-    each o (x ∷ xs) = ap (λ b. b || is_among (map object_of_item xs) o) (sides o x.object) ∙ ap (λ b. same x.object o || b) (each o xs)
-
+-- those of whose Notices these are
 pub among_noticed : (ws : List Work) → is_among (filter_map (λ w. notice_of w.kind) ws) ≡ is_told_by ws
 among_noticed ws = fun_ext (λ o. each o ws)
   where

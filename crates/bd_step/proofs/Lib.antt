@@ -27,4 +27,5 @@ pub mod FollowingObjects
 pub mod Handed
 pub mod Clearing
 pub mod New
+pub mod Known
 pub mod Afterwards

@@ -5,6 +5,7 @@ pub mod Plain
 pub mod Ending
 pub mod Telling
 pub mod Taking
+pub mod Known
 pub mod Deliveries
 pub mod Freed
 pub mod Following

@@ -1,7 +1,8 @@
 //! Delivery: the objects, references and names of a parcel, its buffer with the translated data, and the notices of its
 //! sender's own objects.
 
-ghost use Rattle.std.specs.Prelude.{◌≡◌, ◌≤◌, IfOk, OnOk, OnErr, length, Some, None, map, fold, not, ◌&&◌, if◌then◌else◌};
+ghost use Rattle.std.specs.Prelude.{◌≡◌, ◌≤◌, IfOk, OnOk, OnErr, length, Some, None, fold, not, ◌&&◌, if◌then◌else◌};
+ghost use Rattle.std.specs.List.{filter_map};
 ghost use Rattle.bd_uapi.specs.Kinds as kinds;
 ghost use Rattle.bd_space.specs.{References.{object_in}, Space.{Space}, Seats.{process_in}};
 ghost use Rattle.bd_space.specs.Windows as room;
@@ -9,12 +10,12 @@ ghost use Rattle.bd_space.specs.Words as words;
 ghost use Rattle.bd_space.specs.Parcels as parcels;
 ghost use Rattle.bd_space.specs.Names.{names_go};
 ghost use Rattle.bd_space.specs.Delivery as spec;
-ghost use Rattle.bd_ways.specs.{Local.{objects_of_items}, Tables.{MakesWhere}};
+ghost use Rattle.bd_ways.specs.Tables.{MakesWhere};
 ghost use Rattle.bd_objects.specs.Room as object_rooms;
 ghost use Rattle.bd_calls.specs.Room as call_rooms;
 ghost use Rattle.bd_buffers.specs.WindowsStand.{CanAdd, HasBufferRoom};
 ghost use Rattle.bd_step.specs.{Stands.{Before, Tells, Makes, Begins, PassesLimit, KeepsTold}, Meets.{IsKept}};
-ghost use Rattle.bd_step.specs.Following.{AreTouched};
+ghost use Rattle.bd_step.specs.{Following.{AreTouched}, Known.{known_before, are_known_before}};
 ghost use Rattle.bd_step.specs.Deliveries.{IsSound, IsDeliverable, IsReady, CanSend, Delivers, Spends, OnlyWorks, OnlyObjects, sending, size_of, IsCopy};
 
 use crate::sending::Sending;
@@ -112,10 +113,25 @@ fn copy_of(parcel: &Parcel, items: &[Item]) -> Result<Option<Bytes>, AllocError>
     Ok(Some(parcel.bytes.copied()?))
 }
 
-fn objects_of(alloc: Global, items: &[Item]) -> Result<Vec<Identity>, AllocError>
-    ensures { IfOk result (λ os. os.items ≡ map parcels.object_of_item items.now) }
+// The item's object, unless the step of this place makes it.
+fn known_before(place: u64, x: &Item) -> Option<Identity>
+    ensures { result ≡ known_before place x.now }
 {
-    items.iter().map(|x| x.object).collect(alloc)
+    if x.flat.kind.is_own() && x.object.place == place {
+        None
+    } else {
+        Some(x.object)
+    }
+}
+
+// The objects of these that the step of this place doesn't make: of one that it makes nothing follows.
+fn objects_before(alloc: Global, place: u64, items: &[Item]) -> Result<Vec<Identity>, AllocError>
+    ensures { IfOk result (λ os. os.items ≡ filter_map (known_before place) items.now) }
+{
+    items
+        .iter()
+        .filter_map(|x| known_before(place, x))
+        .collect(alloc)
 }
 
 /// A buffer as it is to be laid out in its window: its data as its receiver is to see them, or those of its parcel where they are
@@ -216,7 +232,7 @@ impl Tables {
     }
 
     /// Makes room for a delivery and for what follows from it, and tells at which objects, in the order in which they were
-    /// made. Changes nothing else, also where memory is refused.
+    /// made: at those that the parcel doesn't make. Changes nothing else, also where memory is refused.
     #[inline(always)]
     pub(crate) fn reserve_delivery(
         &mut self,
@@ -227,8 +243,8 @@ impl Tables {
         ensures stands { IsKept self.old self.new }
         ensures deliverable { (d : TransactionData) → IsDeliverable self.old d delivery.now → IsDeliverable self.new d delivery.now }
         ensures ready { OnOk result (IsReady self.new sent.now delivery.now) }
-        ensures touched { IfOk result (λ os. AreTouched (objects_of_items delivery.now.sending.items) os.items) }
-        ensures len { IfOk result (λ os. length os.items ≡ length delivery.now.sending.items) }
+        ensures touched { IfOk result (λ os. AreTouched (are_known_before self.old.steps delivery.now.sending.items) os.items) }
+        ensures len { IfOk result (λ os. length os.items ≤ length delivery.now.sending.items) }
         ensures told { KeepsTold self.old self.new }
     {
         let items = delivery.items().len();
@@ -237,7 +253,7 @@ impl Tables {
             .checked_mul(2)
             .and_then(|n| n.checked_add(3))
             .ok_or(AllocError)?;
-        let touched = in_order(objects_of(self.alloc, delivery.items())?);
+        let touched = in_order(objects_before(self.alloc, self.steps, delivery.items())?);
         let size = needed(sent.data_size, sent.offsets_size);
         self.windows
             .reserve_buffer(delivery.receiver(), delivery.start, size)?;
@@ -346,10 +362,10 @@ impl Tables {
         if !x.flat.kind.is_own() {
             return;
         }
-        if let Some(o) = self.objects.object(x.object) {
-            let wanted = self.objects.wants_notice(&self.processes, &o);
+        let owner = self.objects.owner_to_tell(&self.processes, x.object);
+        if owner.is_some() {
             let list = TodoList::OfThread(seat);
-            self.calls.add_notice(self.steps, list, o.id, wanted);
+            self.calls.add_notice(self.steps, list, x.object, true);
         }
     }
 

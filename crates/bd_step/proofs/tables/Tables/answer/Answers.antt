@@ -1,8 +1,8 @@
-use Rattle.std.proofs.Common.{length, ap, sym, subst, ◌∙◌, refl}
+use Rattle.std.proofs.Common.{ℕ, length, ap, sym, subst, ◌∙◌, refl}
 use Rattle.bd_space.specs.Space.{Space}
 use Rattle.bd_space.specs.Replies.{replied}
 use Rattle.bd_ways.specs.Local.{ObjectTest, follow_of, close_up, no_name, is_among}
-use Rattle.bd_step.specs.Stands.{Within}
+use Rattle.bd_step.specs.{Stands.{Within}, Known.{are_known_before}}
 use Rattle.bd_step.proofs.Standing.{numbers_completed}
 use Rattle.bd_step.proofs.Refusals.{full_if}
 use Rattle.bd_step.proofs.Afterwards.{replied_sends, replied_followed, replied_ordered}
@@ -23,7 +23,8 @@ returns-clause-step c = taken_step _ _ _ _ _ (
       stands = λ s h p.
           let f = c.args.f in
           let z = replied s c.args.actor c.args.sent.now f c.args.delivery in
-          let looked = ap is_among c.as_slice.ensures.value ∙ c.in-Ok.ensures.touched.among in
+          let looked = ap is_among c.as_slice.ensures.value ∙ c.in-Ok.ensures.touched.among
+          ∙ ap (λ (n : ℕ). are_known_before n c.args.delivery.sending.items) (sym h.own.steps_are) in
           subst (Within c.close_up.new.self)
           (ap (λ (b : ObjectTest). let y : Space = follow_of no_name b z in close_up (length y.frames) f.parent y) looked
           ∙ sym (replied_followed s c.args.actor c.args.sent.now f c.args.delivery p))

@@ -1,9 +1,9 @@
-use Rattle.std.proofs.Common.{Option, ap, sym, subst, ◌∙◌, refl}
+use Rattle.std.proofs.Common.{ℕ, Option, ap, sym, subst, ◌∙◌, refl}
 use Rattle.bd_space.specs.declared.step.Identity.{Identity}
 use Rattle.bd_space.specs.Transactions.{transacted}
-use Rattle.bd_ways.specs.Local.{ObjectTest, follow_of, no_name, is_among, objects_of_items}
+use Rattle.bd_ways.specs.Local.{ObjectTest, follow_of, no_name, is_among}
 use Rattle.bd_step.specs.Stands.{Within}
-use Rattle.bd_step.specs.Freed.{ripen_next}
+use Rattle.bd_step.specs.{Freed.{ripen_next}, Known.{are_known_before}}
 use Rattle.bd_step.proofs.Standing.{numbers_completed}
 use Rattle.bd_step.proofs.Refusals.{full_if}
 use Rattle.bd_step.proofs.Afterwards.{sent_call, sent_followed, sent_ordered, ripened_ordered}
@@ -24,8 +24,9 @@ returns-clause-step c = taken_step _ _ _ _ _ (
       stands = λ s h p.
           let z = transacted s c.args.actor c.args.sent.now c.args.delivery in
           let target = c.one_way_target-target.result in
-          let sent = objects_of_items c.args.delivery.sending.items in
-          let looked = ap is_among c.as_slice.ensures.value ∙ c.in-Ok.ensures.touched.among in
+          let items = c.args.delivery.sending.items in
+          let sent = are_known_before s.steps items in
+          let looked = ap is_among c.as_slice.ensures.value ∙ c.in-Ok.ensures.touched.among ∙ ap (λ (n : ℕ). are_known_before n items) (sym h.own.steps_are) in
           subst (Within c.follow_objects.new.self)
           (ap (λ (b : ObjectTest). follow_of no_name b (ripen_next target z)) looked
           ∙ ap (λ (o : Option Identity). follow_of no_name sent (ripen_next o z)) c.one_way_target-target.ensures
