@@ -1,6 +1,7 @@
 -- What a parcel makes after the first few is found by owner and ptr.
-use Rattle.std.proofs.Common.{◌≡◌, ℕ, ◌==◌, ◌<◌, ◌≤◌, ◌&&◌, List, [], ◌∷◌, ◌++◌, Option, take, drop, find, length, ap, sym, ◌∙◌, arith, length-append}
+use Rattle.std.proofs.Common.{◌≡◌, ℕ, ◌==◌, ◌<◌, ◌≤◌, ◌&&◌, Bool, true, false, refl, List, [], ◌∷◌, ◌++◌, Option, take, drop, find, length, ap, sym, ◌∙◌, arith, length-append}
 use Rattle.std.specs.Option.{option_or}
+use Rattle.std.proofs.lemmas.Bool.{eqb-true}
 use Rattle.std.proofs.lemmas.List.{take-append-drop, drop-append-le, drop_all}
 use Rattle.std.proofs.lemmas.List.Folds.{find-append}
 use Rattle.bd_space.specs.declared.space.Object.{Object}
@@ -8,7 +9,19 @@ use Rattle.bd_space.specs.References.{own_in}
 use Rattle.bd_keys.specs.declared.key.WordKey.{WordKey}
 use Rattle.bd_keys.specs.declared.map.WordMap.{WordMap}
 use Rattle.bd_keys.specs.Look.{look}
-use Rattle.bd_objects.specs.Later.{few, own_at, Finds}
+use Rattle.bd_objects.specs.Later.{few, own_at, Finds, NoneAbove}
+
+-- one more may be higher
+pub none_more : (a b : ℕ) (objects : List Object) (x : Object) → a ≤ b → x.ptr ≤ b → NoneAbove a objects → NoneAbove b (objects ++ x ∷ [])
+none_more a b objects x up this h p ptr lt =
+    let is_own = λ (y : Object). (y.owner == p) && (y.ptr == ptr) in
+    find-append is_own objects (x ∷ []) ∙ ap (λ o. option_or o (own_in (x ∷ []) p ptr)) (h p ptr (omega (arith, up, lt)))
+    ∙ rw (other (x.owner == p) (x.ptr == ptr) refl) refl
+  where
+    other : (c d : Bool) → (x.ptr == ptr) ≡ d → (c && d) ≡ false
+    other c true e = let is = eqb-true x.ptr ptr e in absurd (omega (arith, is, this, lt))
+    other true false e = refl
+    other false false e = refl
 
 -- one is found among the first few or after them
 pub found_split : (n : ℕ) (objects : List Object) (p ptr : ℕ) (found : Option Object)

@@ -18,7 +18,10 @@ pub struct Made {
     objects: Vec<Object>,
     // Those after the first few, by owner and ptr.
     later: WordMap<Object>,
+    // None has a ptr above this one: where objects lie one behind the other, what is new needs no look.
+    highest: u64,
     ghost found: { after.Finds objects.items later },
+    ghost not_higher: { after.NoneAbove highest objects.items },
 }
 
 fn key_of(x: &Object) -> WordKey
@@ -41,10 +44,13 @@ fn first_few(objects: &[Object]) -> &[Object]
 fn own_in(objects: &[Object], p: u64, ptr: u64) -> Option<Object>
     ensures { result ≡ refer.own_in objects.now p ptr }
 {
-    objects
-        .iter()
-        .copied()
-        .find(|x| x.owner == p && x.ptr == ptr)
+    // None is copied that isn't it.
+    for x in objects {
+        if x.ptr == ptr && x.owner == p {
+            return Some(*x);
+        }
+    }
+    None
 }
 
 /// Notes the object, unless there is an earlier one with its owner and ptr.
@@ -73,6 +79,7 @@ impl Made {
         Made {
             objects: Vec::new(alloc),
             later: WordMap::new(alloc),
+            highest: 0,
         }
     }
 
@@ -99,6 +106,7 @@ impl Made {
         if self.objects.len() >= FEW {
             note(&mut self.later, x);
         }
+        self.highest = self.highest.max(x.ptr);
         self.objects.push_reserved(x);
     }
 
@@ -106,6 +114,9 @@ impl Made {
     pub fn find_own(&self, p: u64, ptr: u64) -> Option<Object>
         ensures { result ≡ refer.own_in (made_items self.now) p ptr }
     {
+        if ptr > self.highest {
+            return None;
+        }
         match own_in(first_few(self.as_slice()), p, ptr) {
             Some(x) => Some(x),
             None => self.later.get(WordKey {

@@ -1,5 +1,5 @@
 -- Of an object that a parcel makes nothing follows: the buffer refers to it, and its Notice has just been made.
-use Rattle.bd_laws.proofs.words.Logic.{arith, ◌≡◌, ℕ, ◌==◌, ◌+◌, ◌≤◌, length, Bool, true, false, cond, not, ◌&&◌, ◌||◌, List, [], ◌∷◌, ◌++◌, Option, Some, None, ◌⊎◌, inl, inr, refl, ap, sym, subst, ◌∙◌, list_any, fold, filter_map, cons_option, eqb-true, list_any-append}
+use Rattle.bd_laws.proofs.words.Logic.{arith, ◌≡◌, ℕ, ◌==◌, ◌+◌, ◌≤◌, length, Bool, true, false, cond, not, ◌&&◌, ◌||◌, List, [], ◌∷◌, ◌++◌, Option, Some, None, ◌⊎◌, inl, inr, refl, ap, sym, subst, ◌∙◌, fold, filter_map, cons_option, eqb-true, list_any-append}
 use Rattle.std.proofs.Math.Bool.{or-true}
 use Rattle.bd_laws.proofs.words.Types.{TransactionData, Identity, Object, Reference, Item, Actor, Work, Frame, OfThread, is_own}
 use Rattle.bd_laws.proofs.words.Space.{same, is_some_and, Space, object_in, held_in, lives_in, wants_notice, has_notice_in, is_notice, with_work, with_notice, owe, goes_to, Delivery, delivered, own_notices, add_notice, add_buffer, with_carried, assign_numbers, refer, make_objects, buffer_of, buffer_references, ObjectTest, no_name, objects_of_items, transacted, called, call_out, replied, closed, is_spam, follow_of}

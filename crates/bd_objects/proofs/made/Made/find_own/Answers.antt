@@ -1,4 +1,4 @@
-use Rattle.std.proofs.Common.{take, ap, ◌∙◌}
+use Rattle.std.proofs.Common.{take, ap, sym, ◌∙◌}
 use Rattle.bd_space.specs.References.{own_in}
 use Rattle.bd_objects.specs.Later.{few}
 use Rattle.bd_objects.specs.Made.{made_items}
@@ -15,3 +15,6 @@ returns-in-None c =
     let is = ap (λ xs. own_in xs c.args.p c.args.ptr) (c.first_few.ensures ∙ ap (take few) c.as_slice.ensures) in
     c.get.ensures ∙ c.args.self.now.found _
     ∙ found_split few (made_items c.args.self.now) c.args.p c.args.ptr _ (c.in-None.ensures ∙ is)
+
+pub returns-then-ptr-self : goal.returns-then-ptr-self
+returns-then-ptr-self c = sym (c.args.self.now.not_higher c.args.p c.args.ptr c.if-ptr-self.true)
