@@ -1,4 +1,5 @@
 pub mod Keys
+pub mod Halves
 pub mod Places
 pub mod Walks
 pub mod Hanging

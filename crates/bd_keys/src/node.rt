@@ -33,6 +33,18 @@ impl Node {
     fn way(&self, k: WordKey) -> usize
         ensures { result ≡ way self.now (spread k) }
     {
+        // Near the root the three bits are all in the lower half.
+        if self.bit <= 61 {
+            return ((k.low() >> self.bit) % 8) as usize;
+        }
+        self.far_way(k)
+    }
+
+    // The same far from the root.
+    #[inline(never)]
+    fn far_way(&self, k: WordKey) -> usize
+        ensures { result ≡ way self.now (spread k) }
+    {
         let number = k.spread();
         // Past its 128 bits a number has no more.
         if self.bit > 127 {

@@ -17,7 +17,7 @@ fn next(nodes: &[Node], at: usize, k: WordKey) -> Option<usize>
     ensures { result ≡ next nodes.now at k }
 {
     let node = &nodes[at];
-    if node.key == k {
+    if node.key.is(k) {
         return None;
     }
     match node.toward(k) {
