@@ -9,7 +9,7 @@ const FEW: usize = 1024;
 const SECTION: u64 = 0x9e37_79b9_7f4a_7c15;
 
 /// Two guesses for each key where what it leads to stands: the latest of the keys that share one of a few, and one of many, twice
-/// as many as there are things. Whoever asks compares what stands there, and searches where it is another's: so no contract
+/// as many as there are things: of the many first where there are too many for the few. Whoever asks compares what stands there, and searches where it is another's: so no contract
 /// speaks of a guess.
 #[derive(Drop)]
 pub struct Guesses {
@@ -30,6 +30,12 @@ impl Guesses {
     fn place_of(&self, key: u64) -> usize {
         let part = key.wrapping_mul(SECTION) >> 32;
         (part.wrapping_mul(self.many.len() as u64) >> 32) as usize
+    }
+
+    /// Whether there are so few things that the few guesses are asked first.
+    #[inline(always)]
+    pub fn are_few(&self) -> bool {
+        self.many.len() <= 2 * FEW
     }
 
     /// Where it may stand.

@@ -46,9 +46,11 @@ impl<T: Copy> Numbered<T> {
     pub fn slot_of(&self, p: u64) -> Option<usize>
         ensures { result ≡ slot_at self.now p }
     {
-        let guess = self.guesses.of(p) as usize;
-        if made_at(&self.rows, guess) == Some(p) {
-            return Some(guess);
+        if self.guesses.are_few() {
+            let guess = self.guesses.of(p) as usize;
+            if made_at(&self.rows, guess) == Some(p) {
+                return Some(guess);
+            }
         }
         self.slot_among(p)
     }
@@ -61,6 +63,10 @@ impl<T: Copy> Numbered<T> {
         let other = self.guesses.among(p) as usize;
         if made_at(&self.rows, other) == Some(p) {
             return Some(other);
+        }
+        let few = self.guesses.of(p) as usize;
+        if made_at(&self.rows, few) == Some(p) {
+            return Some(few);
         }
         self.slots.get(&p).copied()
     }

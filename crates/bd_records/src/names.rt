@@ -103,9 +103,11 @@ impl Names {
     pub fn number_of(&self, p: u64, o: Identity) -> Option<u32>
         ensures { result ≡ number_of self.now p o }
     {
-        let guess = self.guesses.of(key_of(p, o));
-        if self.named(p, guess) == Some(o) {
-            return Some(guess);
+        if self.guesses.are_few() {
+            let guess = self.guesses.of(key_of(p, o));
+            if self.named(p, guess) == Some(o) {
+                return Some(guess);
+            }
         }
         if tall(o.place, o.index) > self.latest {
             return None;
@@ -121,6 +123,10 @@ impl Names {
         let other = self.guesses.among(key_of(p, o));
         if self.named(p, other) == Some(o) {
             return Some(other);
+        }
+        let few = self.guesses.of(key_of(p, o));
+        if self.named(p, few) == Some(o) {
+            return Some(few);
         }
         number_in(&self.numbers, p, o)
     }

@@ -84,9 +84,11 @@ impl Objects {
     pub fn slot_of(&self, o: Identity) -> Option<usize>
         ensures { result ≡ slot_at self.now o }
     {
-        let guess = self.guesses.of(key_of(o)) as usize;
-        if id_at(&self.rows, guess) == Some(o) {
-            return Some(guess);
+        if self.guesses.are_few() {
+            let guess = self.guesses.of(key_of(o)) as usize;
+            if id_at(&self.rows, guess) == Some(o) {
+                return Some(guess);
+            }
         }
         if tall(o.place, o.index) > self.latest {
             return None;
@@ -102,6 +104,10 @@ impl Objects {
         let other = self.guesses.among(key_of(o)) as usize;
         if id_at(&self.rows, other) == Some(o) {
             return Some(other);
+        }
+        let few = self.guesses.of(key_of(o)) as usize;
+        if id_at(&self.rows, few) == Some(o) {
+            return Some(few);
         }
         slot_in(&self.slots, o)
     }
