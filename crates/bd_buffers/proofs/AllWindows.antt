@@ -1,16 +1,13 @@
 -- The windows of all live processes through each change.
-use Rattle.std.proofs.Common.{◌≡◌, ◌≢◌, ℕ, zero, suc, ◌+◌, ◌<◌, ◌≤◌, Bool, true, false, cond, List, [], ◌∷◌, ◌++◌, length, get_or, set, map, refl, ap, sym, ◌∙◌, arith, subst, All, eq-eqb, ne_eqb, Some, None, Ok, Err, nat_lt, rules, tests}
-use Rattle.std.specs.Prelude.{◌==◌, ◌||◌, not, filter, find, Option, AllPairs, MatchOption, option_copied, option_map, IfOk, IfSome, Result}
+use Rattle.std.proofs.Common.{◌≡◌, ◌≢◌, ℕ, ◌+◌, ◌<◌, ◌≤◌, Bool, true, false, cond, List, [], ◌∷◌, ◌++◌, length, get_or, set, map, refl, ap, sym, ◌∙◌, arith, subst, All, eq-eqb, ne_eqb, Some, None, Ok, Err}
+use Rattle.std.specs.Prelude.{◌==◌, not, filter, find, Option, MatchOption, option_copied, option_map, IfOk, IfSome, Result}
 use denote.Ref.{Bor}
-use Rattle.std.specs.List.{position, position_or_len}
+use Rattle.std.specs.Option.{is_some}
 use Rattle.bd_uapi.specs.declared.fault.Cause.{Cause}
 use Rattle.std.proofs.lemmas.Bool.{false≢true, eqb-true}
-use Rattle.std.proofs.lemmas.List.{map_push, map-set, get_or-map, length-map}
+use Rattle.std.proofs.lemmas.List.{map_push, map-set, get_or-map, get_or-set_same, length-map}
 use Rattle.std.proofs.lemmas.List.Elements.{All-head, All-tail, All-filter, All-weaker}
-use Rattle.std.proofs.lemmas.List.Folds.{find_at, find-set}
-use Rattle.std.proofs.lemmas.Option.{slice_get_past, slice_get_read}
-use Rattle.std.proofs.lemmas.List.Sums.{position_or_len_is}
-use Rattle.std.proofs.lemmas.List.Quantifiers.{position-Some}
+use Rattle.std.proofs.lemmas.Option.{slice_get_read}
 use Rattle.std.proofs.Math.Seq.{map-set_same}
 use Rattle.std.proofs.Math.ListN as list
 use Rattle.bd_keys.specs.declared.map.WordMap.{WordMap}
@@ -23,20 +20,20 @@ use Rattle.bd_space.specs.Windows.{buffers_of}
 use Rattle.bd_space.specs.Freeing.{is_made_at}
 use Rattle.bd_space.specs.Returns.{buffer_in}
 use Rattle.bd_space.specs.ReadItems.{hand_out, handed_buffers}
-use Rattle.bd_keys.proofs.Rising.{pairs_head, pairs_tail, Rising, distinct}
-use Rattle.bd_keys.proofs.Found.{found_has, none_found}
+use Rattle.bd_keys.proofs.Rising.{Rising, distinct, find_at, find_none}
+use Rattle.bd_keys.proofs.Found.{any_some, found_has, none_found}
 use Rattle.bd_space.proofs.Keyed.{changed_at, changed_none}
 use Rattle.bd_buffers.specs.declared.window.Window.{Window}
 use Rattle.bd_buffers.specs.declared.owned.OwnedWindow.{OwnedWindow}
 use Rattle.bd_buffers.specs.declared.windows.Windows.{Windows}
 use Rattle.bd_buffers.specs.Homes.{home_key, AreHomes, Forgets}
-use Rattle.bd_buffers.specs.Owners.{AreInOrder}
+use Rattle.bd_buffers.specs.Owners.{AreInOrder, StandsAt}
 use Rattle.bd_buffers.specs.Window as single
-use Rattle.bd_buffers.specs.WindowsStand.{ProcessWindow, seen, window_of, with_buffers, is_owned_by, is_of, WindowsOf, Stands, buffers_held, CanHoldIn, made_of_buffer}
+use Rattle.bd_buffers.specs.WindowsStand.{ProcessWindow, seen, window_of, with_buffers, is_owned_by, is_of, AreMade, WindowsOf, Stands, buffers_held, CanHoldIn, made_of_buffer}
 use Rattle.bd_buffers.proofs.Homes.{homes_handed, homes_closed, home_finds, found_kept}
 use Rattle.bd_buffers.proofs.Made.{kept as among}
 use Rattle.bd_buffers.proofs.InSpace.{added, added_elsewhere, kept_in, handed_in, others_stay}
-use Rattle.bd_buffers.proofs.Owners.{look_found, no_process}
+use Rattle.bd_buffers.proofs.Owners.{look_found, same_owners, no_process}
 use Rattle.bd_buffers.proofs.Standing.{found_of, filtered_of}
 use Rattle.bd_buffers.proofs.Order.{lives_below, process_made, buffer_made, made_kept, made_handed, process_gone}
 
@@ -46,13 +43,29 @@ seen_as w old f e is = let size = is.size_is in let buffers = is.buffers_are in 
 
 -- ---- what the windows are after each change
 
-pub each_is : (f : List Buffer → List Buffer) (bs new : List Buffer) → ((p : ℕ) → f (buffers_of bs p) ≡ buffers_of new p) → (ps : List Process)
-    → map (with_buffers f) (map (window_of bs) ps) ≡ map (window_of new) ps
-each_is f bs new same [] = refl
-each_is f bs new same (q ∷ ps) =
-    let head : with_buffers f (window_of bs q) ≡ window_of new q = ap (λ xs. record { owner = q.made; size = q.window; buffers = xs }) (same q.made) in
-    let rest = each_is f bs new same ps in
+-- where one process's buffers change, and all others' stay
+one_window : (f : List Buffer → List Buffer) (bs new : List Buffer) (p : ℕ) → f (buffers_of bs p) ≡ buffers_of new p → ((r : ℕ) → r ≢ p → buffers_of bs r ≡ buffers_of new r) → (ps : List Process)
+    → changed (is_of p) (with_buffers f) (map (window_of bs) ps) ≡ map (window_of new) ps
+one_window f bs new p own other [] = refl
+one_window f bs new p own other (q ∷ ps) =
+    let head = first (q.made == p) refl in
+    let rest = one_window f bs new p own other ps in
     cc
+  where
+    window : List Buffer → ProcessWindow
+    window xs = record { owner = q.made; size = q.window; buffers = xs }
+
+    first : (b : Bool) → (q.made == p) ≡ b → cond b (with_buffers f (window_of bs q)) (window_of bs q) ≡ window_of new q
+    first true e = let same = eqb-true q.made p e in ap (λ r. window (f (buffers_of bs r))) same ∙ ap window own ∙ ap (λ r. window (buffers_of new r)) (sym same)
+    first false e = ap window (other q.made (λ same. absurd (false≢true (sym e ∙ eq-eqb q.made p same))))
+
+pub one_changes : (t u : Windows) (bound after p : ℕ) (ps : List Process) (bs new : List Buffer) (f : List Buffer → List Buffer) → map seen u.windows ≡ changed (is_of p) (with_buffers f) (map seen t.windows)
+    → f (buffers_of bs p) ≡ buffers_of new p → ((r : ℕ) → r ≢ p → buffers_of bs r ≡ buffers_of new r) → AreMade after ps new → AreHomes u.homes new → WindowsOf t bound ps bs → WindowsOf u after ps new
+one_changes t u bound after p ps bs new f e own other made homes stands = record {
+  windows_are = e ∙ ap (changed (is_of p) (with_buffers f)) stands.windows_are ∙ one_window f bs new p own other ps;
+  made = made;
+  homes_are = homes;
+}
 
 -- ---- a process more
 
@@ -88,24 +101,18 @@ opened t u bound ps bs q w e own is pushed homes stands =
 
 -- ---- buffers that go, and one that is handed out
 
-pub kept : (t u : Windows) (bound : ℕ) (ps : List Process) (bs : List Buffer) (keep : Buffer → Bool)
-    → map seen u.windows ≡ map (with_buffers (filter keep)) (map seen t.windows) → AreHomes u.homes (filter keep bs) → WindowsOf t bound ps bs
-    → WindowsOf u bound ps (filter keep bs)
-kept t u bound ps bs keep e homes stands = record {
-  windows_are = e ∙ ap (map (with_buffers (filter keep))) stands.windows_are ∙ each_is (filter keep) bs (filter keep bs) (λ p. sym (kept_in keep bs p)) ps;
-  made = made_kept bound ps keep bs stands.made;
-  homes_are = homes;
-}
+-- those of a process go that aren't kept
+pub kept : (t u : Windows) (bound p : ℕ) (ps : List Process) (bs : List Buffer) (keep : Buffer → Bool) → map seen u.windows ≡ changed (is_of p) (with_buffers (filter keep)) (map seen t.windows)
+    → ((r : ℕ) → r ≢ p → filter keep (buffers_of bs r) ≡ buffers_of bs r) → AreHomes u.homes (filter keep bs) → WindowsOf t bound ps bs → WindowsOf u bound ps (filter keep bs)
+kept t u bound p ps bs keep e other homes stands =
+    one_changes t u bound bound p ps bs (filter keep bs) (filter keep) e (sym (kept_in keep bs p)) (λ r ne. sym (kept_in keep bs r ∙ other r ne)) (made_kept bound ps keep bs stands.made) homes stands
 
-pub handed : (t u : Windows) (bound : ℕ) (ps : List Process) (bs : List Buffer) (made : ℕ)
-    → map seen u.windows ≡ map (with_buffers (changed (is_made_at made) hand_out)) (map seen t.windows) → u.homes ≡ t.homes → WindowsOf t bound ps bs
-    → WindowsOf u bound ps (changed (is_made_at made) hand_out bs)
-handed t u bound ps bs made e homes stands = record {
-  windows_are = e ∙ ap (map (with_buffers (changed (is_made_at made) hand_out))) stands.windows_are
-      ∙ each_is (changed (is_made_at made) hand_out) bs (changed (is_made_at made) hand_out bs) (λ p. sym (handed_in bs p made)) ps;
-  made = made_handed bound ps (is_made_at made) bs stands.made;
-  homes_are = subst (λ h. AreHomes h (changed (is_made_at made) hand_out bs)) (sym homes) (homes_handed t.homes bs (is_made_at made) stands.homes_are);
-}
+pub handed : (t u : Windows) (bound p made : ℕ) (ps : List Process) (bs : List Buffer)
+    → map seen u.windows ≡ changed (is_of p) (with_buffers (changed (is_made_at made) hand_out)) (map seen t.windows)
+    → ((r : ℕ) → r ≢ p → changed (is_made_at made) hand_out (buffers_of bs r) ≡ buffers_of bs r) → u.homes ≡ t.homes → WindowsOf t bound ps bs → WindowsOf u bound ps (changed (is_made_at made) hand_out bs)
+handed t u bound p made ps bs e other homes stands =
+    one_changes t u bound bound p ps bs (changed (is_made_at made) hand_out bs) (changed (is_made_at made) hand_out) e (sym (handed_in bs p made)) (λ r ne. sym (handed_in bs r made ∙ other r ne))
+    (made_handed bound ps (is_made_at made) bs stands.made) (subst (λ h. AreHomes h (changed (is_made_at made) hand_out bs)) (sym homes) (homes_handed t.homes bs (is_made_at made) stands.homes_are)) stands
 
 -- ---- a process that ends
 
@@ -188,35 +195,39 @@ gone_as t bound p ps bs (Some w) found stands gone = owner_gone t bound p ps bs 
 
 -- the window at the place that is found
 pub record IsAt (t : Windows) (p i : ℕ) (w : OwnedWindow) : Type 0 where
+  pub order : AreInOrder t.windows
   pub within : i < length t.windows
   pub owner_is : w.owner ≡ p
   pub found : find (is_owned_by p) t.windows ≡ Some w
   pub at : w ≡ get_or t.windows i w
-  pub first : i ≡ position_or_len (is_owned_by p) t.windows
 
-pub is_at : (t : Windows) (p i : ℕ) (w : OwnedWindow) → position (is_owned_by p) t.windows ≡ Some i → w ≡ get_or t.windows i w → IsAt t p i w
-is_at t p i w e at =
-    let is = position-Some (is_owned_by p) t.windows i w e in
-    let within = is.0 in
-    record {
-      within = within;
-      owner_is = eqb-true w.owner p (ap (is_owned_by p) at ∙ is.1);
-      found = sym (look_found (is_owned_by p) t.windows i e) ∙ slice_get_read t.windows (length t.windows) i w refl within at;
+pub is_at : (v t : Windows) (p i : ℕ) (w : OwnedWindow) → v ≡ t → AreInOrder v.windows → StandsAt v.windows p (Some i) → w ≡ get_or v.windows i w → IsAt t p i w
+is_at v t p i w same order here at =
+    subst (λ (u : Windows). IsAt u p i w) same (record {
+      order = order;
+      within = here.0;
+      owner_is = ap (λ (x : OwnedWindow). x.owner) at ∙ here.1 w;
+      found = sym (look_found (λ (x : OwnedWindow). x.owner) p v.windows i order here.0 here.1) ∙ slice_get_read v.windows (length v.windows) i w refl here.0 at;
       at = at;
-      first = sym (position_or_len_is (is_owned_by p) t.windows i w (omega arith) is.2 (λ h. is.1));
-    }
+    })
 
 -- the window that stands there after it is changed
 pub left_at : (t : Windows) (p i : ℕ) (w x : OwnedWindow) → IsAt t p i w → x.owner ≡ w.owner → find (is_owned_by p) (set t.windows i x) ≡ Some x
-left_at t p i w x is own = find-set (is_owned_by p) t.windows i x is.first is.within (eq-eqb x.owner p (own ∙ is.owner_is))
+left_at t p i w x is own =
+    let owner = λ (y : OwnedWindow). y.owner in
+    let ws = set t.windows i x in
+    let owners : map owner ws ≡ map owner t.windows = map-set_same owner t.windows i x w (own ∙ ap owner is.at) in
+    let len : length ws ≡ length t.windows = sym (length-map ws owner) ∙ ap length owners ∙ length-map t.windows owner in
+    let here : (d : OwnedWindow) → get_or ws i d ≡ x = λ d. get_or-set_same t.windows i x d is.within in
+    find_at owner p ws i x (distinct owner ws (same_owners t.windows ws owners is.order)) (omega (arith, len, is.within)) (λ d. ap owner (here d) ∙ own ∙ is.owner_is) ∙ ap (λ y. Some y) (here x)
 
 -- the windows are seen as before where one is changed that still stands for the same
-pub stay_seen : (t : Windows) (p i : ℕ) (w : OwnedWindow) (new : Window) → position (is_owned_by p) t.windows ≡ Some i → w ≡ get_or t.windows i w
-    → ((size : ℕ) (bs : List Buffer) → Stands w.window size bs → Stands new size bs) → map seen (set t.windows i (record { owner = w.owner; window = new })) ≡ map seen t.windows
-stay_seen t p i w new e at kept =
+pub stay_seen : (ws : List OwnedWindow) (i : ℕ) (w : OwnedWindow) (new : Window) → w ≡ get_or ws i w → ((size : ℕ) (bs : List Buffer) → Stands w.window size bs → Stands new size bs)
+    → map seen (set ws i (record { owner = w.owner; window = new })) ≡ map seen ws
+stay_seen ws i w new at kept =
     let x : OwnedWindow = record { owner = w.owner; window = new } in
     let same : seen x ≡ seen w = seen_as x w (λ bs. bs) refl (kept w.window.size w.window.buffers (record { size_is = refl; buffers_are = refl })) in
-    map-set_same seen t.windows i x w (same ∙ ap seen at)
+    map-set_same seen ws i x w (same ∙ ap seen at)
 
 pub stay : (t u : Windows) (bound : ℕ) (ps : List Process) (bs : List Buffer) → map seen u.windows ≡ map seen t.windows → AreHomes u.homes bs → WindowsOf t bound ps bs → WindowsOf u bound ps bs
 stay t u bound ps bs e homes stands = record { windows_are = e ∙ stands.windows_are; made = stands.made; homes_are = homes }
@@ -235,41 +246,6 @@ can_hold_back t p w one_way size start found can =
 
 -- ---- a buffer more
 
-others_same : (ps : List Process) (bs : List Buffer) (b : Buffer) → All (λ q. b.receiver < q.made) ps → map (window_of bs) ps ≡ map (window_of (bs ++ b ∷ [])) ps
-others_same [] bs b later = refl
-others_same (q ∷ ps) bs b later =
-    let P : Process → Type 0 = λ x. b.receiver < x.made in
-    let lt = All-head P q ps later in
-    let head : window_of bs q ≡ window_of (bs ++ b ∷ []) q =
-    ap (λ xs. record { owner = q.made; size = q.window; buffers = xs }) (sym (added_elsewhere bs b q.made (λ e. absurd (omega (arith, e, lt))))) in
-    let rest = others_same ps bs b (All-tail P q ps later) in
-    cc
-
-abbrev with_added : Buffer → ProcessWindow → ProcessWindow
-with_added b x = with_buffers (λ xs. xs ++ b ∷ []) x
-
-set_added : (ps : List Process) (i : ℕ) (d : Process) (bs : List Buffer) (b : Buffer) (x : ProcessWindow) → AllPairs (λ a c. a.made < c.made) ps → i < length ps
-    → (get_or ps i d).made ≡ b.receiver → x ≡ with_added b (window_of bs (get_or ps i d)) → set (map (window_of bs) ps) i x ≡ map (window_of (bs ++ b ∷ [])) ps
-set_added [] i d bs b x order h own is = absurd (omega arith)
-set_added (q ∷ ps) zero d bs b x order h own is =
-    let P : Process → Type 0 = λ y. b.receiver < y.made in
-    let later : All P ps = λ k e lt. (let first = pairs_head (λ (a : Process) (c : Process). a.made < c.made) q ps order k e lt in omega (arith, first, own)) in
-    let head : x ≡ window_of (bs ++ b ∷ []) q = is ∙ ap (λ xs. record { owner = q.made; size = q.window; buffers = xs }) (sym (added bs b q.made (sym own))) in
-    let rest = others_same ps bs b later in
-    cc
-set_added (q ∷ ps) (suc i) d bs b x order h own is =
-    let lt = pairs_head (λ (a : Process) (c : Process). a.made < c.made) q ps order i d (omega arith) in
-    let head : window_of bs q ≡ window_of (bs ++ b ∷ []) q =
-    ap (λ xs. record { owner = q.made; size = q.window; buffers = xs }) (sym (added_elsewhere bs b q.made (λ e. absurd (omega (arith, e, lt, own))))) in
-    let rest = set_added ps i d bs b x (pairs_tail (λ (a : Process) (c : Process). a.made < c.made) q ps order) (omega arith) own is in
-    cc
-
-lives_at : (ps : List Process) (i : ℕ) (d : Process) (r : ℕ) → i < length ps → (get_or ps i d).made ≡ r → lives_in ps r ≡ true
-lives_at [] i d r h e = absurd (omega arith)
-lives_at (q ∷ ps) zero d r h e = ap (λ b. b || lives_in ps r) (eq-eqb q.made r e)
-lives_at (q ∷ ps) (suc i) d r h e =
-    elim (q.made == r) as (λ b. (b || lives_in ps r) ≡ true) [ true ↦ refl | false ↦ lives_at ps i d r (omega arith) e ]
-
 -- what stands at an index is the window of the process there
 at_index : (t : Windows) (bound i : ℕ) (ps : List Process) (bs : List Buffer) (w : OwnedWindow) → WindowsOf t bound ps bs → i < length t.windows → w ≡ get_or t.windows i w
     → (i < length ps) × (seen w ≡ window_of bs (get_or ps i no_process))
@@ -279,57 +255,19 @@ at_index t bound i ps bs w stands within at =
       ap seen at ∙ sym (list.get_or-map seen t.windows i w) ∙ ap (λ xs. get_or xs i (seen w)) stands.windows_are ∙ get_or-map (window_of bs) ps i no_process (seen w) h,
     )
 
-pub buffer_added : (t u : Windows) (bound i : ℕ) (ps : List Process) (bs : List Buffer) (b : Buffer) (w x : OwnedWindow) → b.made ≡ bound → IsAt t b.receiver i w
-    → x.owner ≡ w.owner → Stands x.window w.window.size (w.window.buffers ++ b ∷ []) → u.windows ≡ set t.windows i x → AreHomes u.homes (bs ++ b ∷ []) → WindowsOf t bound ps bs
+pub buffer_added : (t u : Windows) (bound : ℕ) (ps : List Process) (bs : List Buffer) (b : Buffer) (w : OwnedWindow) → b.made ≡ bound → find (is_owned_by b.receiver) t.windows ≡ Some w
+    → map seen u.windows ≡ changed (is_of b.receiver) (with_buffers (λ xs. xs ++ b ∷ [])) (map seen t.windows) → AreHomes u.homes (bs ++ b ∷ []) → WindowsOf t bound ps bs
     → WindowsOf u (bound + 1) ps (bs ++ b ∷ [])
-buffer_added t u bound i ps bs b w x e is own as_one is_set homes stands =
-    let there = at_index t bound i ps bs w stands is.within is.at in
-    let h = there.0 in
-    let at = there.1 in
-    let q = get_or ps i no_process in
-    let made : q.made ≡ b.receiver = sym (ap (λ (y : ProcessWindow). y.owner) at) ∙ is.owner_is in
-    let new : seen x ≡ with_added b (window_of bs q) = seen_as x w (λ xs. xs ++ b ∷ []) own as_one ∙ ap (with_added b) at in
-    record {
-      windows_are = ap (map seen) is_set ∙ map-set seen t.windows i x ∙ ap (λ xs. set xs i (seen x)) stands.windows_are
-          ∙ set_added ps i no_process bs b (seen x) stands.made.processes_in_order h made new;
-      made = buffer_made bound ps bs b e (lives_at ps i no_process b.receiver h made) stands.made;
-      homes_are = homes;
-    }
-
--- ---- the buffer that a step made
-
-each_first : (f : List Buffer → List Buffer) (bs : List Buffer) (p : ℕ) (q : Process) (b : Bool) → (q.made == p) ≡ b → ((r : ℕ) → r ≢ p → f (buffers_of bs r) ≡ buffers_of bs r)
-    → cond b (with_buffers f (window_of bs q)) (window_of bs q) ≡ with_buffers f (window_of bs q)
-each_first f bs p q true e other = refl
-each_first f bs p q false e other =
-    ap (λ xs. record { owner = q.made; size = q.window; buffers = xs }) (sym (other q.made (λ same. absurd (false≢true (sym e ∙ eq-eqb q.made p same)))))
-
-each_other : (f : List Buffer → List Buffer) (bs : List Buffer) (p : ℕ) (ps : List Process) → ((r : ℕ) → r ≢ p → f (buffers_of bs r) ≡ buffers_of bs r)
-    → changed (is_of p) (with_buffers f) (map (window_of bs) ps) ≡ map (with_buffers f) (map (window_of bs) ps)
-each_other f bs p [] other = refl
-each_other f bs p (q ∷ ps) other =
-    let head = each_first f bs p q (q.made == p) refl other in
-    let rest = each_other f bs p ps other in
-    cc
-
--- where the buffers of other windows stay, a change of one window is that of all
-pub all_changed : (t : Windows) (bound p : ℕ) (ps : List Process) (bs : List Buffer) (f : List Buffer → List Buffer) → WindowsOf t bound ps bs
-    → ((r : ℕ) → r ≢ p → f (buffers_of bs r) ≡ buffers_of bs r) → changed (is_of p) (with_buffers f) (map seen t.windows) ≡ map (with_buffers f) (map seen t.windows)
-all_changed t bound p ps bs f stands other =
-    ap (changed (is_of p) (with_buffers f)) stands.windows_are ∙ each_other f bs p ps other ∙ ap (map (with_buffers f)) (sym stands.windows_are)
-
-pub none_changed : (t : Windows) (bound : ℕ) (ps : List Process) (bs : List Buffer) (f : List Buffer → List Buffer) → WindowsOf t bound ps bs
-    → ((r : ℕ) → f (buffers_of bs r) ≡ buffers_of bs r) → map seen t.windows ≡ map (with_buffers f) (map seen t.windows)
-none_changed t bound ps bs f stands same = stands.windows_are ∙ sym (each_is f bs bs same ps) ∙ ap (map (with_buffers f)) (sym stands.windows_are)
+buffer_added t u bound ps bs b w e found is homes stands =
+    one_changes t u bound (bound + 1) b.receiver ps bs (bs ++ b ∷ []) (λ xs. xs ++ b ∷ []) is (sym (added bs b b.receiver refl)) (λ r ne. sym (added_elsewhere bs b r (λ same. ne (sym same))))
+    (buffer_made bound ps bs b e (lives (process_in ps b.receiver) refl) stands.made) homes stands
+  where
+    lives : (o : Option Process) → process_in ps b.receiver ≡ o → lives_in ps b.receiver ≡ true
+    lives None f = absurd (owner_gone t bound b.receiver ps bs w stands f found)
+    lives (Some q) f = any_some (λ (x : Process). x.made == b.receiver) ps ∙ ap is_some f
 
 not_living : (ps : List Process) (p : ℕ) → process_in ps p ≡ None → lives_in ps p ≡ false
-not_living ps p none = nobody ps (none_found (λ (q : Process). q.made == p) ps none)
-  where
-    nobody : (ps : List Process) → All (λ (q : Process). (q.made == p) ≡ false) ps → lives_in ps p ≡ false
-    nobody [] all = refl
-    nobody (q ∷ ps) all =
-        let P : Process → Type 0 = λ x. (x.made == p) ≡ false in
-        ap (λ b. b || lives_in ps p) (All-head P q ps all) ∙ nobody ps (All-tail P q ps all)
+not_living ps p none = any_some (λ (q : Process). q.made == p) ps ∙ ap is_some none
 
 -- a buffer that is found in some window is the one that was made there
 pub guessed : (t : Windows) (bound i made : ℕ) (ps : List Process) (bs : List Buffer) (w : OwnedWindow) (b : Buffer) → WindowsOf t bound ps bs → i < length t.windows → w ≡ get_or t.windows i w
@@ -409,33 +347,20 @@ rising_seen ws w order i j d lt h =
 
 -- ---- the answers of the table
 
-module _ {A : Type 0} (p : A → Bool) where
-  none_before : (k n : ℕ) (b : Bool) → nat_lt k n ≡ b → cond b (Some k) None ≡ None → n ≤ k
-  none_before k n true e f = cc
-  none_before k n false e f = search (rules, tests)
-
-  pub none_at : (xs : List A) → position p xs ≡ None → find p xs ≡ None
-  none_at xs e = find_at p xs ∙ slice_get_past xs (position_or_len p xs) (none_before (position_or_len p xs) (length xs) (nat_lt (position_or_len p xs) (length xs)) refl e)
-
-pub one_changed : (ws : List OwnedWindow) (p i : ℕ) (w x : OwnedWindow) (f : List Buffer → List Buffer) → AreInOrder ws → position (is_owned_by p) ws ≡ Some i → w ≡ get_or ws i w
-    → seen x ≡ with_buffers f (seen w) → map seen (set ws i x) ≡ changed (is_of p) (with_buffers f) (map seen ws)
-one_changed ws p i w x f order e at is =
-    let there = position-Some (is_owned_by p) ws i w e in
-    let within = there.0 in
-    let owner = λ (y : ProcessWindow). y.owner in
-    let here : (d : ProcessWindow) → (get_or (map seen ws) i d).owner ≡ p = λ d. ap owner (get_or-map seen ws i w d within) ∙ eqb-true (get_or ws i w).owner p there.1 in
-    map-set seen ws i x ∙ ap (set (map seen ws) i) (is ∙ ap (with_buffers f) (ap seen at ∙ sym (list.get_or-map seen ws i w)))
-    ∙ sym (changed_at owner (with_buffers f) p (map seen ws) i (seen w) (distinct owner (map seen ws) (rising_seen ws w order)) (omega (arith, within, length-map ws seen)) here)
-
--- and where what is made of the window is that of its buffers
-pub one_made : (ws : List OwnedWindow) (p i : ℕ) (w : OwnedWindow) (new : Window) (f : List Buffer → List Buffer) → AreInOrder ws → position (is_owned_by p) ws ≡ Some i → w ≡ get_or ws i w
+-- where what is made of the window is that of its buffers
+pub one_made : (ws : List OwnedWindow) (p i : ℕ) (w : OwnedWindow) (new : Window) (f : List Buffer → List Buffer) → AreInOrder ws → StandsAt ws p (Some i) → w ≡ get_or ws i w
     → Stands new w.window.size (f w.window.buffers) → map seen (set ws i (record w { window = new })) ≡ changed (is_of p) (with_buffers f) (map seen ws)
-one_made ws p i w new f order e at stands = one_changed ws p i w (record w { window = new }) f order e at (seen_as (record w { window = new }) w f refl stands)
+one_made ws p i w new f order here at stands =
+    let owner = λ (y : ProcessWindow). y.owner in
+    let x : OwnedWindow = record w { window = new } in
+    let there : (d : ProcessWindow) → (get_or (map seen ws) i d).owner ≡ p = λ d. ap owner (get_or-map seen ws i w d here.0) ∙ here.1 w in
+    map-set seen ws i x ∙ ap (set (map seen ws) i) (seen_as x w f refl stands ∙ ap (with_buffers f) (ap seen at ∙ sym (list.get_or-map seen ws i w)))
+    ∙ sym (changed_at owner (with_buffers f) p (map seen ws) i (seen w) (distinct owner (map seen ws) (rising_seen ws w order)) (omega (arith, here.0, length-map ws seen)) there)
 
-pub one_missed : (ws : List OwnedWindow) (p : ℕ) (f : List Buffer → List Buffer) → position (is_owned_by p) ws ≡ None → map seen ws ≡ changed (is_of p) (with_buffers f) (map seen ws)
-one_missed ws p f e =
+pub one_missed : (ws : List OwnedWindow) (p : ℕ) (f : List Buffer → List Buffer) → StandsAt ws p None → map seen ws ≡ changed (is_of p) (with_buffers f) (map seen ws)
+one_missed ws p f none =
     sym (changed_none (λ (y : ProcessWindow). y.owner) (with_buffers f) p (map seen ws)
-    (none_found (is_of p) (map seen ws) (found_of seen (is_of p) ws ∙ ap (option_map seen) (none_at (is_owned_by p) ws e))))
+    (none_found (is_of p) (map seen ws) (found_of seen (is_of p) ws ∙ ap (option_map seen) (find_none (λ (w : OwnedWindow). w.owner) p ws none))))
 
 pub can_hold_nowhere : (t : Windows) (p : ℕ) (one_way : Bool) (size start : ℕ) → find (is_owned_by p) t.windows ≡ None
     → CanHoldIn (find (is_of p) (map seen t.windows)) one_way size start → ⊥
@@ -448,14 +373,12 @@ fits_whole size bs n (Ok p) is least = let inside = least.room.inside in let sma
 fits_whole size bs n (Err x) is least = tt
 
 -- what is read hands over the buffer that was made there
-pub handed_by : (t u : Windows) (bound : ℕ) (ps : List Process) (bs : List Buffer) (o : Option Buffer) (made : ℕ) → Some made ≡ option_map made_of_buffer o
-    → map seen u.windows ≡ map (with_buffers (changed (is_made_at made) hand_out)) (map seen t.windows) → u.homes ≡ t.homes → WindowsOf t bound ps bs
-    → WindowsOf u bound ps (handed_buffers bs o)
-handed_by t u bound ps bs None made e f homes stands = cc
-handed_by t u bound ps bs (Some b) made e f homes stands =
+pub handed_by : (t : Windows) (bound : ℕ) (ps : List Process) (bs : List Buffer) (o : Option Buffer) (made : ℕ) → Some made ≡ option_map made_of_buffer o
+    → WindowsOf t bound ps (changed (is_made_at made) hand_out bs) → WindowsOf t bound ps (handed_buffers bs o)
+handed_by t bound ps bs None made e stands = cc
+handed_by t bound ps bs (Some b) made e stands =
     let same : made ≡ b.made = cc in
-    let P : ℕ → Type 0 = λ m. WindowsOf u bound ps (changed (is_made_at m) hand_out bs) in
-    subst P same (handed t u bound ps bs made f homes stands)
+    subst (λ m. WindowsOf t bound ps (changed (is_made_at m) hand_out bs)) same stands
 
 pub none_handed_by : (t : Windows) (bound : ℕ) (ps : List Process) (bs : List Buffer) (o : Option Buffer) → None ≡ option_map made_of_buffer o → WindowsOf t bound ps bs
     → WindowsOf t bound ps (handed_buffers bs o)

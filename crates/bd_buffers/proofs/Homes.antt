@@ -6,7 +6,6 @@ use Rattle.std.specs.List.{cons_option}
 use Rattle.std.specs.Option.{is_some, option_or, option_to_list}
 use Rattle.std.proofs.lemmas.Bool.{eqb-true, eqb-false}
 use Rattle.std.proofs.lemmas.List.{append-nil}
-use Rattle.std.proofs.lemmas.List.Elements.{All-filter}
 use Rattle.std.proofs.lemmas.List.Folds.{find-append}
 use Rattle.bd_keys.specs.declared.key.WordKey.{WordKey}
 use Rattle.bd_keys.specs.declared.map.WordMap.{WordMap}
@@ -81,9 +80,6 @@ others_home homes bs m p r rising are home other =
     elsewhere (Some b) e =
         let same : p ≡ b.receiver = cc in
         ap (λ t. cond t (Some b) None) (ne_eqb b.receiver r (λ f. other (sym f ∙ sym same)))
-
-pub none_among : (bs : List Buffer) (m r : ℕ) → NoneAt m bs → NoneAt m (buffers_of bs r)
-none_among bs m r none = All-filter (λ b. b.receiver == r) (λ b. (b.made == m) ≡ false) bs none
 
 -- ---- where there is its own
 

@@ -3,8 +3,9 @@
 use Rattle.std.proofs.Common.{◌≡◌, ◌≢◌, ℕ, Bool, true, false, cond, List, [], ◌∷◌, ◌++◌, Some, refl, ap, sym, ◌∙◌, eq-eqb, ne_eqb}
 use Rattle.std.specs.Prelude.{◌==◌, ◌&&◌, not, find, filter}
 use Rattle.std.proofs.lemmas.List.{append-nil}
-use Rattle.std.proofs.lemmas.Bool.{false≢true, eqb-true}
-use Rattle.std.proofs.lemmas.List.Elements.{filter-append}
+use Rattle.std.proofs.Math.Bool.{and_comm, and-false}
+use Rattle.std.proofs.lemmas.Bool.{eqb-true}
+use Rattle.std.proofs.lemmas.List.Elements.{filter-append, filter_agree}
 use Rattle.bd_space.specs.declared.space.Buffer.{Buffer}
 use Rattle.bd_space.specs.Words.{changed}
 use Rattle.bd_space.specs.Windows.{buffers_of}
@@ -29,20 +30,16 @@ module _ {A : Type 0} where
   filter_at : (q : A → Bool) (x : A) (xs : List A) (b : Bool) → q x ≡ b → filter q (x ∷ xs) ≡ cond b (x ∷ filter q xs) (filter q xs)
   filter_at q x xs b e = ap (λ c. cond c (x ∷ filter q xs) (filter q xs)) e
 
-  swap_first : (q r : A → Bool) (x : A) (xs : List A) (a b : Bool) → q x ≡ a → r x ≡ b → filter q (filter r xs) ≡ filter r (filter q xs)
-      → filter q (filter r (x ∷ xs)) ≡ filter r (filter q (x ∷ xs))
-  swap_first q r x xs true true e f rest =
-      ap (filter q) (filter_at r x xs true f) ∙ filter_at q x (filter r xs) true e ∙ ap (λ ys. x ∷ ys) rest
-      ∙ sym (ap (filter r) (filter_at q x xs true e) ∙ filter_at r x (filter q xs) true f)
-  swap_first q r x xs true false e f rest =
-      ap (filter q) (filter_at r x xs false f) ∙ rest ∙ sym (ap (filter r) (filter_at q x xs true e) ∙ filter_at r x (filter q xs) false f)
-  swap_first q r x xs false true e f rest =
-      ap (filter q) (filter_at r x xs true f) ∙ filter_at q x (filter r xs) false e ∙ rest ∙ sym (ap (filter r) (filter_at q x xs false e))
-  swap_first q r x xs false false e f rest = ap (filter q) (filter_at r x xs false f) ∙ rest ∙ sym (ap (filter r) (filter_at q x xs false e))
+  filter_both : (q r : A → Bool) (xs : List A) → filter q (filter r xs) ≡ filter (λ x. r x && q x) xs
+  filter_both q r [] = refl
+  filter_both q r (x ∷ xs) =
+      elim (r x) as (λ b. filter q (cond b (x ∷ filter r xs) (filter r xs)) ≡ cond (b && q x) (x ∷ filter (λ y. r y && q y) xs) (filter (λ y. r y && q y) xs)) [
+        | true ↦ ap (λ ys. cond (q x) (x ∷ ys) ys) (filter_both q r xs)
+        | false ↦ filter_both q r xs
+      ]
 
   filter_swap : (q r : A → Bool) (xs : List A) → filter q (filter r xs) ≡ filter r (filter q xs)
-  filter_swap q r [] = refl
-  filter_swap q r (x ∷ xs) = swap_first q r x xs (q x) (r x) refl refl (filter_swap q r xs)
+  filter_swap q r xs = filter_both q r xs ∙ filter_agree (λ x. r x && q x) (λ x. q x && r x) (λ x. and_comm (r x) (q x)) xs ∙ sym (filter_both r q xs)
 
   filter_changed : (q p : A → Bool) (f : A → A) → ((x : A) → q (f x) ≡ q x) → (xs : List A) → filter q (changed p f xs) ≡ changed p f (filter q xs)
   filter_changed q p f same [] = refl
@@ -57,18 +54,12 @@ module _ {A : Type 0} where
       ]
 
   -- what goes, goes where the others don't pass anyway
-  kept_first : (q r : A → Bool) (x : A) (xs : List A) (a b : Bool) → q x ≡ a → r x ≡ b → (a ≡ true → b ≡ true) → filter q (filter r xs) ≡ filter q xs
-      → filter q (filter r (x ∷ xs)) ≡ filter q (x ∷ xs)
-  kept_first q r x xs true true e f both rest =
-      ap (filter q) (filter_at r x xs true f) ∙ filter_at q x (filter r xs) true e ∙ ap (λ ys. x ∷ ys) rest ∙ sym (filter_at q x xs true e)
-  kept_first q r x xs false true e f both rest =
-      ap (filter q) (filter_at r x xs true f) ∙ filter_at q x (filter r xs) false e ∙ rest ∙ sym (filter_at q x xs false e)
-  kept_first q r x xs false false e f both rest = ap (filter q) (filter_at r x xs false f) ∙ rest ∙ sym (filter_at q x xs false e)
-  kept_first q r x xs true false e f both rest = absurd (false≢true (both refl))
-
   filter_kept : (q r : A → Bool) → ((x : A) → q x ≡ true → r x ≡ true) → (xs : List A) → filter q (filter r xs) ≡ filter q xs
-  filter_kept q r both [] = refl
-  filter_kept q r both (x ∷ xs) = kept_first q r x xs (q x) (r x) refl refl (both x) (filter_kept q r both xs)
+  filter_kept q r both xs = filter_both q r xs ∙ filter_agree (λ x. r x && q x) q (λ x. by (q x) (r x) (both x)) xs
+    where
+      by : (a b : Bool) → (a ≡ true → b ≡ true) → (b && a) ≡ a
+      by true b h = ap (λ c. c && true) (h refl)
+      by false b h = and-false b
 
 -- ---- what is found in a window by a pointer
 

@@ -1,6 +1,6 @@
 -- What a window keeps through each change.
 use Rattle.std.proofs.Common.{◌≡◌, ℕ, zero, suc, ◌+◌, ◌%◌, ◌<◌, ◌≤◌, Bool, true, false, cond, List, [], ◌∷◌, ◌++◌, length, get_or, refl, ap, sym, ◌∙◌, arith, All}
-use Rattle.std.specs.Prelude.{Ok, Option, Some, None, IsTrue, IfSome, filter, find, remove}
+use Rattle.std.specs.Prelude.{Ok, Option, Some, None, IsTrue, IfSome, filter, find, remove, sum_by}
 use Rattle.std.proofs.lemmas.List.Elements.{All-push}
 use Rattle.std.proofs.lemmas.List.Quantifiers.{all_pairs_push, all_pairs_remove}
 use Rattle.std.proofs.lemmas.List.Sums.{sum_by-cons}
@@ -10,47 +10,54 @@ use Rattle.bd_space.specs.Words.{changed}
 use Rattle.bd_space.specs.Windows.{needed, start_for}
 use Rattle.bd_space.specs.ReadItems.{hand_out}
 use Rattle.bd_keys.proofs.Found.{found_has}
-use Rattle.bd_buffers.specs.Buffer.{IsApart, IsPlaced, one_way_share}
+use Rattle.bd_buffers.specs.Buffer.{IsApart, IsPlaced}
 use Rattle.bd_buffers.specs.Window.{IsInBudget, IsWindow, one_way_size}
 use Rattle.bd_buffers.proofs.Changes.{All_changed, pairs_changed}
 use Rattle.bd_buffers.proofs.Places.{given_says}
 
--- ---- the one-way sizes
+-- ---- what those that pass take
 
--- what a buffer adds
-abbrev pub share : Bool → ℕ → ℕ
-share one_way n = cond one_way n 0
+module _ (pass : Buffer → Bool) where
+  abbrev pub share : Buffer → ℕ
+  share b = cond (pass b) b.size 0
 
-share_within : (b : Buffer) (one_way : Bool) → share one_way b.size ≤ b.size
-share_within b true = omega arith
-share_within b false = omega arith
+  abbrev pub total : List Buffer → ℕ
+  total bs = sum_by (λ b. b.size) (filter pass bs)
 
--- no more than the buffer takes
-pub one_way_within : (b : Buffer) → one_way_share b ≤ b.size
-one_way_within b = share_within b b.one_way
+  pub share_within : (b : Buffer) → share b ≤ b.size
+  share_within b = elim (pass b) as (λ t. cond t b.size 0 ≤ b.size) [ true ↦ omega arith | false ↦ omega arith ]
 
-one_way_cons : (b : Buffer) (bs : List Buffer) (one_way : Bool) → b.one_way ≡ one_way → one_way_size (b ∷ bs) ≡ share one_way b.size + one_way_size bs
-one_way_cons b bs true e = rw e (sum_by-cons (λ (x : Buffer). x.size) b (filter (λ x. x.one_way) bs))
-one_way_cons b bs false e = rw e (omega arith)
+  pub total_cons : (b : Buffer) (bs : List Buffer) → total (b ∷ bs) ≡ share b + total bs
+  total_cons b bs =
+      elim (pass b) as (λ t. sum_by (λ (x : Buffer). x.size) (cond t (b ∷ filter pass bs) (filter pass bs)) ≡ cond t b.size 0 + total bs) [
+        | true ↦ sum_by-cons (λ (x : Buffer). x.size) b (filter pass bs)
+        | false ↦ omega arith
+      ]
 
-pub one_way_push : (bs : List Buffer) (b : Buffer) → one_way_size (bs ++ b ∷ []) ≡ one_way_size bs + share b.one_way b.size
-one_way_push [] b =
-    let alone = one_way_cons b [] b.one_way refl in
-    omega arith
-one_way_push (x ∷ bs) b =
-    let rest = one_way_push bs b in
-    let both = one_way_cons x (bs ++ b ∷ []) x.one_way refl in
-    let one = one_way_cons x bs x.one_way refl in
-    omega arith
+  pub total_push : (bs : List Buffer) (b : Buffer) → total (bs ++ b ∷ []) ≡ total bs + share b
+  total_push [] b = let alone = total_cons b [] in omega (arith, alone)
+  total_push (x ∷ bs) b = let rest = total_push bs b in let both = total_cons x (bs ++ b ∷ []) in let one = total_cons x bs in omega (arith, rest, both, one)
 
-pub one_way_handed : (p : Buffer → Bool) (bs : List Buffer) → one_way_size (changed p hand_out bs) ≡ one_way_size bs
-one_way_handed p [] = refl
-one_way_handed p (x ∷ bs) =
-    let rest = one_way_handed p bs in
-    let one = one_way_cons x bs x.one_way refl in
-    let plain = one_way_cons x (changed p hand_out bs) x.one_way refl in
-    let handed = one_way_cons (hand_out x) (changed p hand_out bs) x.one_way refl in
-    elim (p x) as (λ k. one_way_size (cond k (hand_out x) x ∷ changed p hand_out bs) ≡ one_way_size (x ∷ bs)) [ true ↦ omega arith | false ↦ omega arith ]
+  pub total_handed : ((b : Buffer) → pass (hand_out b) ≡ pass b) → (p : Buffer → Bool) (bs : List Buffer) → total (changed p hand_out bs) ≡ total bs
+  total_handed same p [] = refl
+  total_handed same p (x ∷ bs) =
+      let rest = total_handed same p bs in
+      let one = total_cons x bs in
+      let plain = total_cons x (changed p hand_out bs) in
+      let handed = total_cons (hand_out x) (changed p hand_out bs) ∙ ap (λ t. cond t x.size 0 + total (changed p hand_out bs)) (same x) in
+      elim (p x) as (λ k. total (cond k (hand_out x) x ∷ changed p hand_out bs) ≡ total (x ∷ bs)) [ true ↦ omega (arith, rest, one, handed) | false ↦ omega (arith, rest, one, plain) ]
+
+  pub total_removed : (bs : List Buffer) (i : ℕ) (d : Buffer) → i < length bs → total (remove bs i) + share (get_or bs i d) ≡ total bs
+  total_removed [] i d lt = absurd (omega arith)
+  total_removed (x ∷ bs) zero d lt = let one = total_cons x bs in omega (arith, one)
+  total_removed (x ∷ bs) (suc i) d lt =
+      let rest = total_removed bs i d (omega arith) in
+      let one = total_cons x bs in
+      let both = total_cons x (remove bs i) in
+      omega (arith, rest, one, both)
+
+abbrev pub is_one_way : Buffer → Bool
+is_one_way b = b.one_way
 
 -- ---- the window
 
@@ -71,10 +78,10 @@ placed size b aligned sized inside =
 in_budget : (size : ℕ) (bs : List Buffer) (b : Buffer) (one_way : Bool) → b.one_way ≡ one_way → IsInBudget size bs 0 → (IsTrue one_way → IsInBudget size bs b.size) → IsInBudget size (bs ++ b ∷ []) 0
 in_budget size bs b true e old more =
     let new = more refl in
-    let sum = one_way_push bs b ∙ ap (λ o. one_way_size bs + share o b.size) e in
+    let sum = total_push is_one_way bs b ∙ ap (λ o. one_way_size bs + cond o b.size 0) e in
     omega (arith, sum, new)
 in_budget size bs b false e old more =
-    let sum = one_way_push bs b ∙ ap (λ o. one_way_size bs + share o b.size) e in
+    let sum = total_push is_one_way bs b ∙ ap (λ o. one_way_size bs + cond o b.size 0) e in
     omega (arith, sum, old)
 
 pub window_push : (size : ℕ) (bs : List Buffer) (b : Buffer) → IsWindow size bs → All (λ x. x.made < b.made) bs → b.size ≡ needed (length b.bytes) (length b.offsets)
@@ -91,19 +98,10 @@ window_push size bs b is newest sized place =
       budget = in_budget size bs b b.one_way refl is.budget given.budget;
     }
 
-pub one_way_removed : (bs : List Buffer) (i : ℕ) (d : Buffer) → i < length bs → one_way_size (remove bs i) + share (get_or bs i d).one_way (get_or bs i d).size ≡ one_way_size bs
-one_way_removed [] i d lt = absurd (omega arith)
-one_way_removed (x ∷ bs) zero d lt = let one = one_way_cons x bs x.one_way refl in omega (arith, one)
-one_way_removed (x ∷ bs) (suc i) d lt =
-    let rest = one_way_removed bs i d (omega arith) in
-    let one = one_way_cons x bs x.one_way refl in
-    let both = one_way_cons x (remove bs i) x.one_way refl in
-    omega (arith, rest, one, both)
-
 -- where one buffer ends
 pub window_removed : (size i : ℕ) (bs : List Buffer) (d : Buffer) → IsWindow size bs → i < length bs → IsWindow size (remove bs i)
 window_removed size i bs d is lt =
-    let less = one_way_removed bs i d lt in
+    let less = total_removed is_one_way bs i d lt in
     let old = is.budget in
     record {
       whole = is.whole;
@@ -120,7 +118,7 @@ handed_placed size b is =
 
 pub window_handed : (size : ℕ) (p : Buffer → Bool) (bs : List Buffer) → IsWindow size bs → IsWindow size (changed p hand_out bs)
 window_handed size p bs is =
-    let same = one_way_handed p bs in
+    let same = total_handed is_one_way (λ b. refl) p bs in
     let old = is.budget in
     record {
       whole = is.whole;

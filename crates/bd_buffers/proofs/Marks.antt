@@ -9,7 +9,7 @@ use Rattle.bd_space.specs.Words.{changed}
 use Rattle.bd_space.specs.Seats.{lives_in}
 use Rattle.bd_space.specs.Spam.{detecting, with_spam_detection}
 use Rattle.bd_buffers.specs.declared.windows.Windows.{Windows}
-use Rattle.bd_buffers.specs.WindowsStand.{window_of, AreMade, WindowsOf, StandsFor, StandsIn}
+use Rattle.bd_buffers.specs.WindowsStand.{window_of, AreMade, WindowsOf, StandsIn}
 use Rattle.bd_buffers.proofs.Changes.{All_changed, pairs_changed}
 
 module _ (m : Process → Bool) (on : Bool) where
@@ -48,8 +48,3 @@ module _ (m : Process → Bool) (on : Bool) where
 pub stands_marked : (t : Windows) (s : Space) (p : ℕ) (on : Bool) → StandsIn t s → StandsIn t (with_spam_detection s p on)
 unfolding with_spam_detection
 stands_marked t s p on is = marked (λ q. q.made == p) on t (s.steps + 1) s.processes s.buffers is
-
--- and before one
-pub stands_for_marked : (t : Windows) (s : Space) (p : ℕ) (on : Bool) → StandsFor t s → StandsFor t (with_spam_detection s p on)
-unfolding with_spam_detection
-stands_for_marked t s p on is = marked (λ q. q.made == p) on t s.steps s.processes s.buffers is

@@ -21,7 +21,7 @@ use Rattle.bd_buffers.specs.Sums.{AreNoted, AreSums}
 use Rattle.bd_buffers.specs.Window.{IsWindow, AreStarts, Notes, Keeps, one_way_size, is_free_unit}
 use Rattle.bd_buffers.proofs.Changes.{All_changed}
 use Rattle.bd_buffers.proofs.Places.{IsGiven, given_says}
-use Rattle.bd_buffers.proofs.Kept.{window_push, window_handed, one_way_push, one_way_handed, window_removed, one_way_removed}
+use Rattle.bd_buffers.proofs.Kept.{window_push, window_handed, window_removed, is_one_way, total_push, total_handed, total_removed}
 use Rattle.bd_buffers.proofs.Listed.{starts_noted}
 use Rattle.bd_buffers.proofs.Shares.{sums_pushed, sums_handed, sums_without}
 use Rattle.bd_buffers.proofs.Standing.{all_of, all_stay, in_longer, same_standing, pushed_standing, handed_standing, without_standing}
@@ -39,7 +39,7 @@ notes_handed p bs g is = record {
   whole = is.whole;
   tiles = tiles_handed p bs g.spans is.tiles;
   starts = All_changed p hand_out (λ b. slice_index g.starts.items (b.start / 8) ≡ b.made) (λ b h. h) bs is.starts;
-  total = is.total ∙ sym (one_way_handed p bs);
+  total = is.total ∙ sym (total_handed is_one_way (λ b. refl) p bs);
   sums = sums_handed p bs g.senders is.sums;
 }
 
@@ -56,7 +56,7 @@ notes_without : (b : Buffer) (bs new : List Buffer) (g left : Ground) → Notes 
     → left.starts ≡ g.starts → left.one_way + one_way_share b ≡ g.one_way → ((f : ℕ → ℕ) → AreNoted g.senders (λ m. f m + share_from m b) → AreNoted left.senders f) → Notes new left
 notes_without b bs new g left is gone size units spans starts share senders =
     let total = is.total in
-    let less = one_way_removed bs gone.index b gone.within in
+    let less = total_removed is_one_way bs gone.index b gone.within in
     let own = ap one_way_share (gone.at b) in
     let rest = ap one_way_size gone.left in
     let whole = is.whole in
@@ -142,7 +142,7 @@ module _ (r : Record) (rs : List Record) (g left : Ground) (is : Keeps rs g) (ne
       let notes = is.notes in
       let whole = notes.whole in
       let total = notes.total in
-      let pushed = one_way_push old new in
+      let pushed = total_push is_one_way old new in
       let window : IsWindow g.size (old ++ new ∷ []) = window_push g.size old new notes.window (All-map (λ b. b.made < r.made) (standing g.memory) rs newest) sized place in
       let placed = all_last (IsPlaced g.size) old new window.placed in
       let noted : Notes (old ++ new ∷ []) left = record {

@@ -1,68 +1,27 @@
 -- Windows by whose they are: their owners rise.
-use Rattle.std.proofs.Common.{◌≡◌, ℕ, ◌<◌, Bool, true, false, cond, List, [], ◌∷◌, length, get_or, map, refl, ap, sym, ◌∙◌, arith, All, Some, None, nat_lt, rules, tests, eq-eqb, ne_eqb, ◌+◌, ◌-◌, not, subst, ltb}
-use Rattle.std.specs.Prelude.{◌==◌, find, filter, Option, IfSome, MatchOption, option_copied, is_some}
-use Rattle.std.specs.List.{position, position_or_len, slice_get}
+use Rattle.std.proofs.Common.{◌≡◌, ℕ, ◌<◌, Bool, true, false, cond, List, [], ◌∷◌, length, get_or, map, refl, ap, sym, ◌∙◌, arith, All, Some, None, ◌-◌, subst, ltb}
+use Rattle.std.specs.Prelude.{◌==◌, find, filter, Option, IfSome, option_copied, is_some}
+use Rattle.std.specs.List.{slice_get}
 use Rattle.std.proofs.lemmas.Bool.{ltb-true, ltb-false}
-use Rattle.std.proofs.lemmas.Option.{get_or_from_slice_get, slice_get_past, slice_get_read}
+use Rattle.std.proofs.lemmas.Option.{get_or_from_slice_get, slice_get_past, slice_get_read, slice_get-get_or}
 use Rattle.std.proofs.lemmas.List.{length-map, get_or-map}
-use Rattle.std.proofs.lemmas.List.Elements.{All-head, All-tail}
 use Rattle.std.proofs.lemmas.List.Kept.{AllPairs-filter}
-use Rattle.std.proofs.lemmas.List.Folds.{find_at}
-use Rattle.std.proofs.lemmas.List.Sums.{position_or_len_is}
 use Rattle.std.proofs.Math.ListN as list
 use denote.Ref.{Bor}
 use Rattle.bd_space.specs.declared.space.Process.{Process}
 use Rattle.bd_space.specs.declared.space.Buffer.{Buffer}
 use Rattle.bd_space.specs.Words.{changed}
-use Rattle.bd_keys.proofs.Rising.{Rising}
+use Rattle.bd_keys.proofs.Rising.{Rising, distinct, find_at}
 use Rattle.bd_buffers.specs.declared.owned.OwnedWindow.{OwnedWindow}
 use Rattle.bd_buffers.specs.Owners.{AreInOrder}
 use Rattle.bd_buffers.specs.WindowsStand.{ProcessWindow, seen, window_of, with_buffers, is_of}
 
 -- ---- where one stands
 
-place_of : {A : Type 0} (p : A → Bool) (xs : List A) (i : ℕ) (b : Bool) → position_or_len p xs ≡ i → nat_lt i (length xs) ≡ b → position p xs ≡ cond b (Some i) None
-place_of p xs i b e f = ap (λ k. cond (nat_lt k (length xs)) (Some k) None) e ∙ ap (λ c. cond c (Some i) None) f
-
-within : (i n : ℕ) → i < n → nat_lt i n ≡ true
-within i n lt = search (rules, tests)
-
-beyond : (n : ℕ) → nat_lt n n ≡ false
-beyond n = search (rules, tests)
-
-module _ {A : Type 0} (key : A → ℕ) where
-  pub position_at : (m : ℕ) (xs : List A) (i : ℕ) (d : A) → Rising key xs → i < length xs → key (get_or xs i d) ≡ m → position (λ x. key x == m) xs ≡ Some i
-  position_at m xs i d rising lt is =
-      place_of (λ x. key x == m) xs i true
-      (position_or_len_is (λ x. key x == m) xs i d (omega arith) (λ k below. (let up = rising k i d below lt in ne_at k up)) (λ h. eq-eqb (key (get_or xs i d)) m is))
-      (within i (length xs) lt)
-    where
-      ne_at : (k : ℕ) → key (get_or xs k d) < key (get_or xs i d) → (key (get_or xs k d) == m) ≡ false
-      ne_at k up = ne_eqb (key (get_or xs k d)) m (λ e. absurd (omega (arith, e, up, is)))
-
-  none_long : (m : ℕ) (xs : List A) → All (λ x. (key x == m) ≡ false) xs → position_or_len (λ x. key x == m) xs ≡ length xs
-  none_long m [] none = refl
-  none_long m (x ∷ xs) none =
-      let P : A → Type 0 = λ y. (key y == m) ≡ false in
-      let rest = none_long m xs (All-tail P x xs none) in
-      ap (λ b. cond (not b) (1 + position_or_len (λ y. key y == m) xs) 0) (All-head P x xs none) ∙ omega (arith, rest)
-
-  pub position_none : (m : ℕ) (xs : List A) → All (λ x. (key x == m) ≡ false) xs → position (λ x. key x == m) xs ≡ None
-  position_none m xs none = place_of (λ x. key x == m) xs (length xs) false (none_long m xs none) (beyond (length xs))
-
-module _ {A : Type 0} (key : A → ℕ) where
-  pub position_is : (m : ℕ) (xs : List A) (o : Option ℕ) → Rising key xs
-      → MatchOption o (All (λ y. (key y == m) ≡ false) xs) (λ i. (i < length xs) × ((d : A) → key (get_or xs i d) ≡ m)) → o ≡ position (λ x. key x == m) xs
-  position_is m xs None rising none = sym (position_none key m xs none)
-  position_is m [] (Some i) rising here = absurd (let lt = here.0 in omega (arith, lt))
-  position_is m (x ∷ xs) (Some i) rising here = sym (position_at key m (x ∷ xs) i x rising here.0 (here.1 x))
-
-pub look_found : {A : Type 0} (p : A → Bool) (xs : List A) (i : ℕ) → position p xs ≡ Some i → slice_get xs i ≡ find p xs
-look_found p xs i e = ap (slice_get xs) (sym (found_long p xs i (nat_lt (position_or_len p xs) (length xs)) e)) ∙ sym (find_at p xs)
-  where
-    found_long : {A : Type 0} (p : A → Bool) (xs : List A) (i : ℕ) (b : Bool) → cond b (Some (position_or_len p xs)) None ≡ Some i → position_or_len p xs ≡ i
-    found_long p xs i true f = cc
-    found_long p xs i false f = cc
+pub look_found : {A : Type 0} (key : A → ℕ) (m : ℕ) (xs : List A) (i : ℕ) → Rising key xs → i < length xs → ((d : A) → key (get_or xs i d) ≡ m)
+    → slice_get xs i ≡ find (λ x. key x == m) xs
+look_found key m [] i rising lt at = absurd (omega arith)
+look_found key m (x ∷ xs) i rising lt at = slice_get-get_or (x ∷ xs) i x lt ∙ sym (find_at key m (x ∷ xs) i x (distinct key (x ∷ xs) rising) lt at)
 
 pub look_copied : {A : Type 0} (o : Option (Bor A)) (xs : List A) (i : ℕ) → is_some o ≡ ltb i (length xs) → IfSome o (λ x. x.now ≡ get_or xs i x.now) → option_copied o ≡ slice_get xs i
 look_copied None xs i e at = sym (slice_get_past xs i (ltb-false i (length xs) (sym e)))
@@ -77,7 +36,7 @@ last_has P (y ∷ xs) x e all = subst P (get_or_from_slice_get (y ∷ xs) (lengt
 abbrev owners : List OwnedWindow → List ℕ
 owners ws = map (λ w. w.owner) ws
 
-same_owners : (ws new : List OwnedWindow) → owners new ≡ owners ws → AreInOrder ws → AreInOrder new
+pub same_owners : (ws new : List OwnedWindow) → owners new ≡ owners ws → AreInOrder ws → AreInOrder new
 same_owners ws new e order i j d lt h =
     let owner = λ (w : OwnedWindow). w.owner in
     let len : length new ≡ length ws = sym (length-map new owner) ∙ ap length e ∙ length-map ws owner in

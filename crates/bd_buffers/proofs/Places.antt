@@ -4,7 +4,7 @@ use Rattle.std.specs.Prelude.{Option, Some, None, Result, Ok, Err, option_map, �
 use Rattle.std.specs.List.{list_all}
 use Rattle.std.proofs.lemmas.List.Sums.{AllPass-from_list_all, list_all-from_AllPass}
 use Rattle.std.proofs.lemmas.List.Elements.{All-weaker}
-use Rattle.std.proofs.lemmas.Bool.{cases_lt, and_from, false_from_ne_true}
+use Rattle.std.proofs.lemmas.Bool.{cases_lt, and_from, and_parts}
 use Rattle.bd_uapi.specs.declared.fault.Cause.{Cause}
 use Rattle.bd_uapi.specs.declared.fault.Cause.TheVariants.{NoRoom, OverBudget}
 use Rattle.bd_space.specs.declared.space.Buffer.{Buffer}
@@ -21,22 +21,6 @@ use Rattle.bd_buffers.specs.Window.{IsFree, IsLeastFree, IsInBudget, Refuses, on
 abbrev step_to : (ℕ → Bool) → ℕ → ℕ → Bool → Option ℕ
 step_to p n k true = Some k
 step_to p n k false = least n (k + 1) p
-
-least_at : (p : ℕ → Bool) (n k : ℕ) (b : Bool) → p k ≡ b → least (suc n) k p ≡ step_to p n k b
-least_at p n k b e = ap (step_to p n k) e
-
-pub least_none : (p : ℕ → Bool) (n k : ℕ) → ((j : ℕ) → k ≤ j → j < k + n → p j ≡ false) → least n k p ≡ None
-least_none p zero k fails = refl
-least_none p (suc n) k fails =
-    least_at p n k false (fails k (omega arith) (omega arith)) ∙ least_none p n (k + 1) (λ j low high. fails j (omega arith) (omega arith))
-
-pub least_is : (p : ℕ → Bool) (n k m : ℕ) → k ≤ m → m < k + n → ((j : ℕ) → k ≤ j → j < m → p j ≡ false) → p m ≡ true → least n k p ≡ Some m
-least_is p zero k m low high fails passes = absurd (omega arith)
-least_is p (suc n) k m low high fails passes =
-    elim (cases_lt k m) [
-      | inl lt ↦ least_at p n k false (fails k (omega arith) lt) ∙ least_is p n (k + 1) m (omega arith) (omega arith) (λ j above below. fails j (omega arith) below) passes
-      | inr le ↦ (let same : m ≡ k = omega arith in least_at p n k true (ap p (sym same) ∙ passes) ∙ ap (λ i. Some i) (sym same))
-    ]
 
 -- what the least number is
 pub record IsLeast (p : ℕ → Bool) (n k m : ℕ) : Type 0 where
@@ -81,18 +65,11 @@ apart_is p n b t = search (rules, tests)
 is_apart_from : (p n : ℕ) (b : Buffer) → IsApart p n b → is_apart p n b ≡ true
 is_apart_from p n b apart = search (rules, tests)
 
-first_true : (a b : Bool) → (a && b) ≡ true → a ≡ true
-first_true true b t = refl
-first_true false b t = cc
-
-second_true : (a b : Bool) → (a && b) ≡ true → b ≡ true
-second_true true b t = t
-second_true false b t = cc
-
 pub fits_free : (size : ℕ) (buffers : List Buffer) (n p : ℕ) → p % 8 ≡ 0 → fits_in size buffers n p ≡ true → IsFree size buffers n p
 fits_free size buffers n p aligned fits =
-    let in_window : nat_le (p + n) size ≡ true = first_true (nat_le (p + n) size) (list_all (is_apart p n) buffers) fits in
-    let apart = AllPass-from_list_all (is_apart p n) buffers (second_true (nat_le (p + n) size) (list_all (is_apart p n) buffers) fits) in
+    let both = and_parts (nat_le (p + n) size) (list_all (is_apart p n) buffers) fits in
+    let in_window : nat_le (p + n) size ≡ true = both.0 in
+    let apart = AllPass-from_list_all (is_apart p n) buffers both.1 in
     record {
       aligned = aligned;
       inside = search (rules, tests);
@@ -110,35 +87,6 @@ free_fits size buffers n p room =
 
 eight_times : (q : ℕ) → q % 8 ≡ 0 → q ≡ 8 * (q / 8)
 eight_times q aligned = omega arith
-
-no_lower : (size : ℕ) (buffers : List Buffer) (n k j : ℕ) → IsLeastFree size buffers n (8 * k) → j < k → fits_in size buffers n (8 * j) ≡ false
-no_lower size buffers n k j is lt =
-    false_from_ne_true (fits_in size buffers n (8 * j)) (λ fits.
-    let lower : 8 * k ≤ 8 * j = is.least (8 * j) (fits_free size buffers n (8 * j) (omega arith) fits) in
-    omega arith)
-
-place_is : (size : ℕ) (buffers : List Buffer) (n k : ℕ) → 8 ≤ n → IsLeastFree size buffers n (8 * k) → start_in size buffers n ≡ Some (8 * k)
-unfolding start_in
-place_is size buffers n k filled is =
-    let fits = λ (j : ℕ). fits_in size buffers n (8 * j) in
-    let inside : 8 * k + n ≤ size = is.room.inside in
-    let below : (j : ℕ) → 0 ≤ j → j < k → fits j ≡ false = λ j low high. no_lower size buffers n k j is high in
-    ap (option_map (λ j. 8 * j)) (least_is fits (size / 8) 0 k (omega arith) (omega arith) below (free_fits size buffers n (8 * k) is.room))
-
--- where the least room is, there is the place
-pub start_at : (size : ℕ) (buffers : List Buffer) (n p : ℕ) → 8 ≤ n → IsLeastFree size buffers n p → start_in size buffers n ≡ Some p
-start_at size buffers n p filled is =
-    let whole = eight_times p is.room.aligned in
-    let P : ℕ → Type 0 = λ q. IsLeastFree size buffers n q in
-    place_is size buffers n (p / 8) filled (subst P whole is) ∙ ap (λ q. Some q) (sym whole)
-
--- where there is no room, there is no place
-pub no_start_at : (size : ℕ) (buffers : List Buffer) (n : ℕ) → ((p : ℕ) → IsFree size buffers n p → ⊥) → start_in size buffers n ≡ None
-unfolding start_in
-no_start_at size buffers n none =
-    let fits = λ (j : ℕ). fits_in size buffers n (8 * j) in
-    ap (option_map (λ j. 8 * j)) (least_none fits (size / 8) 0 (λ j low high.
-    false_from_ne_true (fits j) (λ t. none (8 * j) (fits_free size buffers n (8 * j) (omega arith) t))))
 
 some_place : (size : ℕ) (buffers : List Buffer) (n p : ℕ) (o : Option ℕ) → least (size / 8) 0 (λ j. fits_in size buffers n (8 * j)) ≡ o
     → option_map (λ j. 8 * j) o ≡ Some p → IsLeastFree size buffers n p
@@ -182,6 +130,27 @@ no_place size buffers n p None filled e f room =
 pub no_start_says : (size : ℕ) (buffers : List Buffer) (n : ℕ) → 8 ≤ n → start_in size buffers n ≡ None → (p : ℕ) → IsFree size buffers n p → ⊥
 unfolding start_in
 no_start_says size buffers n filled e p room = no_place size buffers n p _ filled refl e room
+
+-- where the least room is, there is the place
+pub start_at : (size : ℕ) (buffers : List Buffer) (n p : ℕ) → 8 ≤ n → IsLeastFree size buffers n p → start_in size buffers n ≡ Some p
+start_at size buffers n p filled is = at (start_in size buffers n) refl
+  where
+    at : (o : Option ℕ) → start_in size buffers n ≡ o → o ≡ Some p
+    at None e = absurd (no_start_says size buffers n filled e p is.room)
+    at (Some q) e =
+        let found = start_says size buffers n q e in
+        let up = is.least q found.room in
+        let down = found.least p is.room in
+        let same : q ≡ p = omega (arith, up, down) in
+        ap (λ r. Some r) same
+
+-- where there is no room, there is no place
+pub no_start_at : (size : ℕ) (buffers : List Buffer) (n : ℕ) → ((p : ℕ) → IsFree size buffers n p → ⊥) → start_in size buffers n ≡ None
+no_start_at size buffers n none = at (start_in size buffers n) refl
+  where
+    at : (o : Option ℕ) → start_in size buffers n ≡ o → o ≡ None
+    at None e = refl
+    at (Some p) e = absurd (none p (start_says size buffers n p e).room)
 
 -- ---- the place and the budget
 

@@ -1,8 +1,7 @@
 -- How much of a window the one-way buffers of each sender take, through each change.
-use Rattle.std.proofs.Common.{◌≡◌, ℕ, zero, suc, ◌+◌, ◌<◌, ◌≤◌, Bool, true, false, cond, List, [], ◌∷◌, ◌++◌, length, get_or, refl, ap, sym, ◌∙◌, arith, eq-eqb}
-use Rattle.std.specs.Prelude.{◌==◌, ◌&&◌, Some, None, filter, remove, unwrap_or}
+use Rattle.std.proofs.Common.{◌≡◌, ℕ, ◌+◌, ◌≤◌, Bool, true, false, cond, List, [], ◌∷◌, ◌++◌, refl, ap, sym, ◌∙◌, arith, eq-eqb}
+use Rattle.std.specs.Prelude.{◌==◌, ◌&&◌, Some, None, unwrap_or}
 use Rattle.std.proofs.lemmas.Bool.{eqb-true}
-use Rattle.std.proofs.lemmas.List.Sums.{sum_by-cons}
 use Rattle.bd_space.specs.declared.space.Buffer.{Buffer}
 use Rattle.bd_space.specs.Words.{changed}
 use Rattle.bd_space.specs.ReadItems.{hand_out}
@@ -12,46 +11,16 @@ use Rattle.bd_buffers.specs.Buffer.{one_way_share, share_from}
 use Rattle.bd_buffers.specs.Rows.{IsWithout}
 use Rattle.bd_buffers.specs.Sums.{noted, sum_at, AreNoted, AreSums}
 use Rattle.bd_buffers.specs.Window.{one_way_size}
+use Rattle.bd_buffers.proofs.Kept.{is_one_way, total_cons, total_push, total_handed, total_removed}
 
--- ---- what each buffer adds
-
-from_first : (m : ℕ) (b : Buffer) (bs : List Buffer) (mine : Bool) → (b.one_way && (b.sender == m)) ≡ mine → one_way_from (b ∷ bs) m ≡ share_from m b + one_way_from bs m
-from_first m b bs true e = rw e (sum_by-cons (λ (x : Buffer). x.size) b (filter (λ x. x.one_way && (x.sender == m)) bs))
-from_first m b bs false e = rw e (omega arith)
-
-pub from_cons : (m : ℕ) (b : Buffer) (bs : List Buffer) → one_way_from (b ∷ bs) m ≡ share_from m b + one_way_from bs m
-from_cons m b bs = from_first m b bs (b.one_way && (b.sender == m)) refl
-
-pub from_push : (m : ℕ) (bs : List Buffer) (b : Buffer) → one_way_from (bs ++ b ∷ []) m ≡ one_way_from bs m + share_from m b
-from_push m [] b = let alone = from_cons m b [] in omega (arith, alone)
-from_push m (x ∷ bs) b =
-    let rest = from_push m bs b in
-    let both = from_cons m x (bs ++ b ∷ []) in
-    let one = from_cons m x bs in
-    omega (arith, rest, both, one)
-
-from_handed : (m : ℕ) (p : Buffer → Bool) (bs : List Buffer) → one_way_from (changed p hand_out bs) m ≡ one_way_from bs m
-from_handed m p [] = refl
-from_handed m p (x ∷ bs) =
-    let rest = from_handed m p bs in
-    let one = from_cons m x bs in
-    let plain = from_cons m x (changed p hand_out bs) in
-    let handed = from_cons m (hand_out x) (changed p hand_out bs) in
-    elim (p x) as (λ k. one_way_from (cond k (hand_out x) x ∷ changed p hand_out bs) m ≡ one_way_from (x ∷ bs) m) [ true ↦ omega (arith, rest, one, handed) | false ↦ omega (arith, rest, one, plain) ]
-
-from_removed : (m : ℕ) (bs : List Buffer) (i : ℕ) (d : Buffer) → i < length bs → one_way_from (remove bs i) m + share_from m (get_or bs i d) ≡ one_way_from bs m
-from_removed m [] i d lt = absurd (omega arith)
-from_removed m (x ∷ bs) zero d lt = let one = from_cons m x bs in omega (arith, one)
-from_removed m (x ∷ bs) (suc i) d lt =
-    let rest = from_removed m bs i d (omega arith) in
-    let one = from_cons m x bs in
-    let both = from_cons m x (remove bs i) in
-    omega (arith, rest, one, both)
+-- a one-way call of this sender
+abbrev pub sent_by : ℕ → Buffer → Bool
+sent_by m b = b.one_way && (b.sender == m)
 
 -- where one buffer ended
 pub from_without : (m : ℕ) (b : Buffer) (bs new : List Buffer) → IsWithout b bs new → one_way_from new m + share_from m b ≡ one_way_from bs m
 from_without m b bs new gone =
-    let less = from_removed m bs gone.index b gone.within in
+    let less = total_removed (sent_by m) bs gone.index b gone.within in
     let own = ap (share_from m) (gone.at b) in
     let rest = ap (λ xs. one_way_from xs m) gone.left in
     omega (arith, less, own, rest)
@@ -63,16 +32,12 @@ share_le m b true true e f = rw (e, f) (omega arith)
 share_le m b true false e f = rw (e, f) (omega arith)
 share_le m b false mine e f = rw e (omega arith)
 
-size_first : (b : Buffer) (bs : List Buffer) (one_way : Bool) → b.one_way ≡ one_way → one_way_size (b ∷ bs) ≡ one_way_share b + one_way_size bs
-size_first b bs true e = rw e (sum_by-cons (λ (x : Buffer). x.size) b (filter (λ x. x.one_way) bs))
-size_first b bs false e = rw e (omega arith)
-
 pub from_within : (m : ℕ) (bs : List Buffer) → one_way_from bs m ≤ one_way_size bs
 from_within m [] = omega arith
 from_within m (x ∷ bs) =
     let rest = from_within m bs in
-    let one = from_cons m x bs in
-    let all = size_first x bs x.one_way refl in
+    let one = total_cons (sent_by m) x bs in
+    let all = total_cons is_one_way x bs in
     let share = share_le m x x.one_way (x.sender == m) refl refl in
     omega (arith, rest, one, all, share)
 
@@ -95,10 +60,10 @@ at_sender sums f is m = ap (λ o. unwrap_or o 0) (is m) ∙ told_by (f m) (f m =
 -- ---- the sums of a window
 
 pub sums_pushed : (bs : List Buffer) (b : Buffer) (sums : WordMap ℕ) → AreNoted sums (λ m. one_way_from bs m + share_from m b) → AreSums (bs ++ b ∷ []) sums
-sums_pushed bs b sums is = λ m. is m ∙ ap noted (sym (from_push m bs b))
+sums_pushed bs b sums is = λ m. is m ∙ ap noted (sym (total_push (sent_by m) bs b))
 
 pub sums_handed : (p : Buffer → Bool) (bs : List Buffer) (sums : WordMap ℕ) → AreSums bs sums → AreSums (changed p hand_out bs) sums
-sums_handed p bs sums is = λ m. is m ∙ ap noted (sym (from_handed m p bs))
+sums_handed p bs sums is = λ m. is m ∙ ap noted (sym (total_handed (sent_by m) (λ b. refl) p bs))
 
 pub sums_without : (b : Buffer) (bs new : List Buffer) (sums : WordMap ℕ) → IsWithout b bs new → AreSums bs sums → AreNoted sums (λ m. one_way_from new m + share_from m b)
 sums_without b bs new sums gone is = λ m. is m ∙ ap noted (sym (from_without m b bs new gone))

@@ -1,6 +1,8 @@
 -- What is free of a window, by bytes and by units of eight.
 use Rattle.std.proofs.Common.{◌≡◌, ℕ, ◌+◌, ◌-◌, ◌*◌, ◌/◌, ◌%◌, ◌<◌, ◌≤◌, Bool, true, false, cond, List, [], ◌∷◌, ◌++◌, length, get_or, map, refl, ap, sym, ◌∙◌, subst, arith, inl, inr, All}
 use Rattle.std.specs.Prelude.{◌&&◌, ◌||◌, not, remove, Some, None}
+use Rattle.std.specs.Cmp.{both_ways}
+use Rattle.std.proofs.Math.Bool.{and_assoc, and-true, or-true, or-false}
 use Rattle.std.proofs.lemmas.Bool.{cases_lt, cases_Bool, false≢true}
 use Rattle.std.proofs.lemmas.List.Elements.{All-weaker}
 use Rattle.std.proofs.lemmas.List.Sums.{AllPass-from_list_all, list_all-from_AllPass}
@@ -153,16 +155,8 @@ module _ (size m : ℕ) (bs : List Buffer) (whole : size ≡ 8 * m) (placed : Al
 
 -- ---- one buffer more
 
-and_assoc : (a b c : Bool) → (a && b) && c ≡ a && (b && c)
-and_assoc true b c = refl
-and_assoc false b c = refl
-
-and_last : (b : Bool) → (b && true) ≡ b
-and_last true = refl
-and_last false = refl
-
 free_more : (bs : List Buffer) (b : Buffer) (q : ℕ) → is_free_byte bs q && not (is_in b.start b.size q) ≡ is_free_byte (bs ++ b ∷ []) q
-free_more [] b q = sym (and_last (not (is_in b.start b.size q)))
+free_more [] b q = sym (and-true (not (is_in b.start b.size q)))
 free_more (x ∷ bs) b q =
     and_assoc (not (is_in x.start x.size q)) (is_free_byte bs q) (not (is_in b.start b.size q))
     ∙ ap (λ (t : Bool). not (is_in x.start x.size q) && t) (free_more bs b q)
@@ -208,19 +202,6 @@ out_with i q bs b lt at f own k d within =
       ]
     ]
 
-same_bool : (a b : Bool) → (a ≡ true → b ≡ true) → (b ≡ true → a ≡ true) → a ≡ b
-same_bool true b to from = sym (to refl)
-same_bool false true to from = from refl
-same_bool false false to from = refl
-
-or_none : (b : Bool) → (b || false) ≡ b
-or_none true = refl
-or_none false = refl
-
-or_all : (b : Bool) → (b || true) ≡ true
-or_all true = refl
-or_all false = refl
-
 free_less : (size u : ℕ) (b : Buffer) (bs new : List Buffer) → IsWindow size bs → IsWithout b bs new → with_span (b.start / 8) (b.size / 8) (is_free_unit bs) u ≡ is_free_unit new u
 free_less size u b bs new window gone =
     let i = gone.index in
@@ -230,10 +211,10 @@ free_less size u b bs new window gone =
     subst P (sym gone.left) (ap (λ x. is_free_unit bs u || x) (unit_in size u b placed) ∙ elim (in_or_out b.start b.size (8 * u)) [
       | inl own ↦ (
           let all = out_free (remove bs i) (8 * u) (out_left i (8 * u) bs lt (others_out size i (8 * u) bs b window lt gone.at own)) in
-          ap (λ x. is_free_unit bs u || x) (is_in_true b.start b.size (8 * u) own) ∙ or_all (is_free_unit bs u) ∙ sym all)
+          ap (λ x. is_free_unit bs u || x) (is_in_true b.start b.size (8 * u) own) ∙ or-true (is_free_unit bs u) ∙ sym all)
       | inr out ↦
-          ap (λ x. is_free_unit bs u || x) (is_in_false b.start b.size (8 * u) out) ∙ or_none (is_free_unit bs u)
-          ∙ same_bool (is_free_byte bs (8 * u)) (is_free_byte (remove bs i) (8 * u))
+          ap (λ x. is_free_unit bs u || x) (is_in_false b.start b.size (8 * u) out) ∙ or-false (is_free_unit bs u)
+          ∙ both_ways (is_free_byte bs (8 * u)) (is_free_byte (remove bs i) (8 * u))
           (λ t. out_free (remove bs i) (8 * u) (All_remove (IsOutOf (8 * u)) bs i lt (free_out bs (8 * u) t)))
           (λ t. out_free bs (8 * u) (out_with i (8 * u) bs b lt gone.at (free_out (remove bs i) (8 * u) t) out))
     ])

@@ -1,9 +1,9 @@
 //! Windows by whose they are.
 
-ghost use Rattle.std.specs.{Prelude.{◌≡◌, ◌<◌, ◌↔◌, not, All, IsTrue, map, filter, find}, List.{position}};
+ghost use Rattle.std.specs.Prelude.{◌≡◌, ◌<◌, ◌↔◌, not, All, IsTrue, map, filter, find};
 ghost use Rattle.std.specs.Option.{option_copied};
 ghost use Rattle.bd_space.specs.{Words.{changed}, Freeing.{is_made_at}, ReadItems.{hand_out}};
-ghost use Rattle.bd_buffers.specs.{Homes.{Forgets}, Owners.{AreInOrder}};
+ghost use Rattle.bd_buffers.specs.{Homes.{Forgets}, Owners.{AreInOrder, StandsAt}};
 ghost use Rattle.bd_buffers.specs.WindowsStand.{buffers_held, is_of, is_owned_by, seen, with_buffers};
 
 use crate::window::Window;
@@ -27,7 +27,7 @@ impl OwnedWindow {
 /// Where the window of a process stands: as guessed, or as found by halves.
 pub(crate) fn position_of(windows: &[OwnedWindow], p: u64, guess: u32) -> Option<usize>
     requires order { AreInOrder windows.now }
-    ensures { result ≡ position (is_owned_by p) windows.now }
+    ensures { StandsAt windows.now p result }
 {
     let near = guess as usize;
     if near < windows.len() && windows[near].owner == p {

@@ -2,7 +2,7 @@ use Rattle.std.proofs.Common.{ap, sym, subst, arith}
 use Rattle.bd_buffers.specs.Buffer.{IsPlaced, one_way_share}
 use Rattle.bd_buffers.specs.Record.{standing, all_standing}
 use Rattle.bd_buffers.specs.Rows.{live}
-use Rattle.bd_buffers.proofs.Kept.{one_way_removed}
+use Rattle.bd_buffers.proofs.Kept.{is_one_way, total_removed}
 use Rattle.bd_buffers.proofs.Shares.{share_there}
 use Rattle.bd_buffers.proofs.Standing.{without_standing}
 use Rattle.bd_buffers.proofs.Units.{filled, before_tail}
@@ -16,7 +16,7 @@ release-requires-clause-share c =
     let gone = without_standing m c.in-Some.record (live c.args.buffers.now.rows) (live c.take_at.new.self.rows) c.in-Some.ensures.live in
     let b = standing m c.in-Some.record in
     let own = ap one_way_share (gone.at b) in
-    let less = one_way_removed bs gone.index b gone.within in
+    let less = total_removed is_one_way bs gone.index b gone.within in
     let total = c.requires.kept.notes.total in
     omega (arith, own, less, total)
 

@@ -1,9 +1,8 @@
-use Rattle.std.proofs.Common.{◌≡◌, ◌∙◌, ap, sym, subst, List, All, false}
+use Rattle.std.proofs.Common.{◌≡◌, ◌∙◌, ap, sym, subst, All, false}
 use Rattle.std.specs.Prelude.{◌==◌}
 use Rattle.bd_buffers.specs.declared.record.Record.{Record}
 use Rattle.bd_space.specs.Words.{changed}
 use Rattle.bd_space.proofs.Keyed.{changed_none}
-use Rattle.bd_buffers.specs.declared.rows.Row.{Row}
 use Rattle.bd_buffers.specs.Record.{is_record_at, hand_over}
 use Rattle.bd_buffers.specs.declared.rows.Rows.{Rows}
 use Rattle.bd_buffers.specs.Rows.{live, AreRows}

@@ -1,4 +1,4 @@
-use Rattle.std.proofs.Common.{◌≡◌, ◌-◌, ◌∙◌, ap, sym, subst, arith, List, length, None}
+use Rattle.std.proofs.Common.{◌∙◌, ap, sym, subst, List, None}
 use Rattle.bd_buffers.specs.declared.record.Record.{Record}
 use Rattle.bd_buffers.specs.declared.rows.Row.{Row}
 use Rattle.bd_buffers.specs.declared.rows.Rows.{Rows}

@@ -12,7 +12,7 @@ use Rattle.bd_buffers.specs.Window.{Keeps, is_free_unit}
 use Rattle.bd_buffers.proofs.Places.{holds_inside}
 use Rattle.bd_buffers.proofs.Shares.{at_sender, from_within}
 use Rattle.bd_buffers.proofs.Standing.{all_of}
-use Rattle.bd_buffers.proofs.Kept.{one_way_within}
+use Rattle.bd_buffers.proofs.Kept.{is_one_way, share_within}
 use Rattle.bd_buffers.proofs.Noted.{AreBeside, begins, with_new, keeps_pushed}
 use Rattle.bd_buffers.proofs.window.Window.commit.Goals as goal
 
@@ -88,7 +88,7 @@ overflow_add-self c =
     let total = c.self.invariant.notes.total in
     let share = c.one_way_share.ensures in
     let size = ap (λ (x : Buffer). x.size) c.lay-record.ensures.standing in
-    record { fits = omega (arith, inside, small, budget, total, share, size, one_way_within (bare r)) }
+    record { fits = omega (arith, inside, small, budget, total, share, size, share_within is_one_way (bare r)) }
 
 pub push-requires-clause-room : goal.push-requires-clause-room
 push-requires-clause-room c =

@@ -8,10 +8,11 @@ use Rattle.bd_space.specs.Windows.{buffers_of}
 use Rattle.bd_space.specs.Freeing.{without_buffer, is_made_at}
 use Rattle.bd_keys.proofs.Rising.{filter_none}
 use Rattle.bd_buffers.specs.declared.windows.Windows.{Windows}
-use Rattle.bd_buffers.specs.WindowsStand.{seen, with_buffers, is_of}
+use Rattle.bd_buffers.specs.WindowsStand.{seen, window_of, with_buffers, is_of}
 use Rattle.bd_buffers.specs.Homes.{home_key}
-use Rattle.bd_buffers.proofs.Homes.{homes_forgotten, none_home, none_among, others_home}
-use Rattle.bd_buffers.proofs.AllWindows.{kept, all_changed, none_changed}
+use Rattle.bd_buffers.proofs.Homes.{homes_forgotten, none_home, others_home}
+use Rattle.bd_buffers.proofs.AllWindows.{kept}
+use Rattle.bd_buffers.proofs.Order.{made_kept}
 use Rattle.bd_buffers.proofs.Owners.{order_one}
 use Rattle.bd_buffers.proofs.windows.Windows.free.Goals as goal
 
@@ -26,9 +27,8 @@ returns-in-Some c = λ s stands.
     sym (c.in-Some.ensures.taken ∙ ap (look c.self.inside.homes) c.home_key.ensures ∙ ap (λ (v : Windows). look v.homes (home_key made)) c.self.view_is) in
     let other : (r : ℕ) → r ≢ p → filter keep (buffers_of s.buffers r) ≡ buffers_of s.buffers r =
     λ r ne. filter_none (λ (b : Buffer). b.made) made (buffers_of s.buffers r) (others_home t.homes s.buffers made p r stands.made.buffers_in_order stands.homes_are home ne) in
-    kept t _ (s.steps + 1) s.processes s.buffers keep
-    (c.free_in.ensures ∙ ap (λ (v : Windows). changed (is_of p) (with_buffers (filter keep)) (map seen v.windows)) c.self.view_is
-    ∙ all_changed t (s.steps + 1) p s.processes s.buffers (filter keep) stands other)
+    kept t _ (s.steps + 1) p s.processes s.buffers keep
+    (c.free_in.ensures ∙ ap (λ (v : Windows). changed (is_of p) (with_buffers (filter keep)) (map seen v.windows)) c.self.view_is) other
     (homes_forgotten t.homes c.remove.new.self s.buffers made stands.homes_are (λ k. c.remove.ensures.gone k
     ∙ ap (λ key. cond (same_word key k) None (look c.self.inside.homes k)) c.home_key.ensures
     ∙ ap (λ (v : Windows). cond (same_word (home_key made) k) None (look v.homes k)) c.self.view_is)) stands
@@ -44,10 +44,11 @@ returns-in_default c = λ s stands.
     let keep = λ (b : Buffer). not (is_made_at made b) in
     let none : look t.homes (home_key made) ≡ None =
     sym (c.remove.ensures.taken ∙ ap (look c.self.inside.homes) c.home_key.ensures ∙ ap (λ (v : Windows). look v.homes (home_key made)) c.self.view_is) ∙ c.in_default.is in
-    let same : (r : ℕ) → filter keep (buffers_of s.buffers r) ≡ buffers_of s.buffers r =
-    λ r. filter_none (λ (b : Buffer). b.made) made (buffers_of s.buffers r) (none_among s.buffers made r (none_home t.homes s.buffers made stands.homes_are none)) in
-    kept t _ (s.steps + 1) s.processes s.buffers keep
-    (ap (λ (v : Windows). map seen v.windows) c.self.view_is ∙ none_changed t (s.steps + 1) s.processes s.buffers (filter keep) stands same)
-    (homes_forgotten t.homes c.remove.new.self s.buffers made stands.homes_are (λ k. c.remove.ensures.gone k
-    ∙ ap (λ key. cond (same_word key k) None (look c.self.inside.homes k)) c.home_key.ensures
-    ∙ ap (λ (v : Windows). cond (same_word (home_key made) k) None (look v.homes k)) c.self.view_is)) stands
+    let same : filter keep s.buffers ≡ s.buffers = filter_none (λ (b : Buffer). b.made) made s.buffers (none_home t.homes s.buffers made stands.homes_are none) in
+    record {
+      windows_are = ap (λ (v : Windows). map seen v.windows) c.self.view_is ∙ stands.windows_are ∙ ap (λ bs. map (window_of bs) s.processes) (sym same);
+      made = made_kept (s.steps + 1) s.processes keep s.buffers stands.made;
+      homes_are = homes_forgotten t.homes c.remove.new.self s.buffers made stands.homes_are (λ k. c.remove.ensures.gone k
+          ∙ ap (λ key. cond (same_word key k) None (look c.self.inside.homes k)) c.home_key.ensures
+          ∙ ap (λ (v : Windows). cond (same_word (home_key made) k) None (look v.homes k)) c.self.view_is);
+    }

@@ -1,4 +1,4 @@
-use Rattle.std.proofs.Common.{◌≡◌, ◌≢◌, ◌+◌, ◌∙◌, ℕ, Some, None, ap, map, refl, sym}
+use Rattle.std.proofs.Common.{◌≡◌, ◌≢◌, ◌+◌, ◌∙◌, ℕ, Some, None, ap, map, subst, sym}
 use Rattle.bd_keys.specs.Look.{look}
 use Rattle.bd_space.specs.declared.space.Buffer.{Buffer}
 use Rattle.bd_space.specs.Words.{changed}
@@ -7,10 +7,10 @@ use Rattle.bd_space.specs.Freeing.{is_made_at}
 use Rattle.bd_space.specs.ReadItems.{read_by, buffer_taken, hand_out}
 use Rattle.bd_space.proofs.Keyed.{changed_none}
 use Rattle.bd_buffers.specs.declared.windows.Windows.{Windows}
-use Rattle.bd_buffers.specs.WindowsStand.{seen, with_buffers, is_of}
+use Rattle.bd_buffers.specs.WindowsStand.{seen, with_buffers, is_of, WindowsOf}
 use Rattle.bd_buffers.specs.Homes.{home_key}
-use Rattle.bd_buffers.proofs.Homes.{none_home, none_among, others_home}
-use Rattle.bd_buffers.proofs.AllWindows.{handed_by, none_handed_by, all_changed, none_changed}
+use Rattle.bd_buffers.proofs.Homes.{none_home, others_home}
+use Rattle.bd_buffers.proofs.AllWindows.{handed, handed_by, none_handed_by}
 use Rattle.bd_buffers.proofs.Owners.{order_one}
 use Rattle.bd_buffers.proofs.windows.Windows.hand_out.Goals as goal
 
@@ -28,9 +28,9 @@ returns-in-Some-get c = λ s seat ws stands e.
     sym (c.in-Some-get.ensures ∙ ap (look c.self.inside.homes) c.home_key.ensures ∙ ap (λ (v : Windows). look v.homes (home_key made)) c.self.view_is) in
     let other : (r : ℕ) → r ≢ p → f (buffers_of s.buffers r) ≡ buffers_of s.buffers r =
     λ r ne. changed_none (λ (b : Buffer). b.made) hand_out made (buffers_of s.buffers r) (others_home t.homes s.buffers made p r stands.made.buffers_in_order stands.homes_are home ne) in
-    handed_by t _ (s.steps + 1) s.processes s.buffers (buffer_taken s ws) made (sym c.in-Some.is ∙ e)
-    (c.hand_out_in.ensures ∙ ap (λ (v : Windows). changed (is_of p) (with_buffers f) (map seen v.windows)) c.self.view_is
-    ∙ all_changed t (s.steps + 1) p s.processes s.buffers f stands other) (ap (λ (v : Windows). v.homes) c.self.view_is) stands
+    handed_by _ (s.steps + 1) s.processes s.buffers (buffer_taken s ws) made (sym c.in-Some.is ∙ e)
+    (handed t _ (s.steps + 1) p made s.processes s.buffers (c.hand_out_in.ensures ∙ ap (λ (v : Windows). changed (is_of p) (with_buffers f) (map seen v.windows)) c.self.view_is) other
+    (ap (λ (v : Windows). v.homes) c.self.view_is) stands)
 
 pub returns-in_default-get : goal.returns-in_default-get
 unfolding read_by
@@ -40,9 +40,8 @@ returns-in_default-get c = λ s seat ws stands e.
     let f = changed (is_made_at made) hand_out in
     let none : look t.homes (home_key made) ≡ None =
     sym (c.get.ensures ∙ ap (look c.self.inside.homes) c.home_key.ensures ∙ ap (λ (v : Windows). look v.homes (home_key made)) c.self.view_is) ∙ c.in_default-get.is in
-    let same : (r : ℕ) → f (buffers_of s.buffers r) ≡ buffers_of s.buffers r =
-    λ r. changed_none (λ (b : Buffer). b.made) hand_out made (buffers_of s.buffers r) (none_among s.buffers made r (none_home t.homes s.buffers made stands.homes_are none)) in
-    handed_by t t (s.steps + 1) s.processes s.buffers (buffer_taken s ws) made (sym c.in-Some.is ∙ e) (none_changed t (s.steps + 1) s.processes s.buffers f stands same) refl stands
+    let same : f s.buffers ≡ s.buffers = changed_none (λ (b : Buffer). b.made) hand_out made s.buffers (none_home t.homes s.buffers made stands.homes_are none) in
+    handed_by t (s.steps + 1) s.processes s.buffers (buffer_taken s ws) made (sym c.in-Some.is ∙ e) (subst (λ bs. WindowsOf t (s.steps + 1) s.processes bs) (sym same) stands)
 
 pub returns-in_default : goal.returns-in_default
 unfolding read_by

@@ -1,12 +1,12 @@
-use Rattle.std.proofs.Common.{◌≡◌, List, find, refl, sym, ap, ◌∙◌, subst, get_or, set, map, Ok, Err, Some, arith}
+use Rattle.std.proofs.Common.{◌≡◌, List, find, refl, sym, ap, ◌∙◌, subst, set, map, Ok, Err, Some, arith}
 use Rattle.std.specs.Prelude.{OnOk, OnErr, Result}
-use Rattle.std.specs.List.{position}
 use Rattle.bd_keys.specs.Look.{look, word_room}
+use Rattle.bd_keys.proofs.Rising.{find_none}
 use Rattle.bd_buffers.proofs.Homes.{homes_same}
 use Rattle.bd_buffers.specs.declared.owned.OwnedWindow.{OwnedWindow}
 use Rattle.bd_buffers.specs.declared.windows.Windows.{Windows}
 use Rattle.bd_buffers.specs.WindowsStand.{ProcessWindow, is_owned_by, is_of, RoomIn, HasBufferRoom, CanAdd, CanHoldIn, seen}
-use Rattle.bd_buffers.proofs.AllWindows.{is_at, left_at, none_at, stay, stay_seen}
+use Rattle.bd_buffers.proofs.AllWindows.{is_at, left_at, stay, stay_seen}
 use Rattle.bd_buffers.proofs.windows.Windows.reserve_buffer.Goals as goal
 
 on_ok : {A B : Type 0} (r : Result A B) (P Q R : Type 0) → (P → Q → R) → P → OnOk r Q → OnOk r R
@@ -24,22 +24,20 @@ refused (Err x) P p = p
 pub returns-in-None-clause-room : goal.returns-in-None-clause-room
 unfolding HasBufferRoom
 returns-in-None-clause-room c =
-    let ws = c.self.inside.windows.items in
-    let none = none_at (is_owned_by c.args.p) ws (sym (c.in-None.ensures ∙ ap (position (is_owned_by c.args.p)) c.deref.ensures.value)) in
+    let none = find_none (λ (w : OwnedWindow). w.owner) c.args.p c.self.inside.windows.items (rw c.deref.ensures.value at c.in-None.ensures) in
     (subst (λ o. RoomIn o c.args.start c.args.size) (sym none) tt, c.in_ok-reserve.ensures.room)
 
 pub returns-in-Some-clause-stands : goal.returns-in-Some-clause-stands
 returns-in-Some-clause-stands c = λ s stands.
-    let found = sym (c.in-Some.ensures ∙ ap (position (is_owned_by c.args.p)) c.deref.ensures.value ∙ ap (λ (v : Windows). position (is_owned_by c.args.p) v.windows) c.self.view_is) in
-    stay c.args.self.now _ s.steps s.processes s.buffers (ap (λ (v : Windows). map seen (set v.windows c.in-Some.at (record { owner = c.index_mut.result.now.owner; window = c.reserve-in-Some.new.self }))) c.self.view_is ∙ stay_seen c.args.self.now c.args.p c.in-Some.at c.index_mut.result.now c.reserve-in-Some.new.self found (c.index_mut.ensures.value ∙ ap (λ (v : Windows). get_or v.windows c.in-Some.at c.index_mut.result.now) c.self.view_is) c.reserve-in-Some.ensures.stands)
+    stay c.args.self.now _ s.steps s.processes s.buffers
+    (stay_seen c.self.inside.windows.items c.in-Some.at c.index_mut.result.now c.reserve-in-Some.new.self c.index_mut.ensures.value c.reserve-in-Some.ensures.stands ∙ ap (λ (v : Windows). map seen v.windows) c.self.view_is)
     (homes_same c.args.self.now.homes c.reserve.new.self s.buffers (λ k. c.reserve.ensures.kept k ∙ ap (λ (v : Windows). look v.homes k) c.self.view_is) stands.homes_are) stands
 
 pub returns-in-Some-clause-can_add : goal.returns-in-Some-clause-can_add
 unfolding CanAdd
 returns-in-Some-clause-can_add c = λ q one_way size start can.
-    let found = sym (c.in-Some.ensures ∙ ap (position (is_owned_by c.args.p)) c.deref.ensures.value ∙ ap (λ (v : Windows). position (is_owned_by c.args.p) v.windows) c.self.view_is) in
     let P : List ProcessWindow → Type 0 = λ xs. CanHoldIn (find (is_of q) xs) one_way size start in
-    subst P (sym (ap (λ (v : Windows). map seen (set v.windows c.in-Some.at (record { owner = c.index_mut.result.now.owner; window = c.reserve-in-Some.new.self }))) c.self.view_is ∙ stay_seen c.args.self.now c.args.p c.in-Some.at c.index_mut.result.now c.reserve-in-Some.new.self found (c.index_mut.ensures.value ∙ ap (λ (v : Windows). get_or v.windows c.in-Some.at c.index_mut.result.now) c.self.view_is) c.reserve-in-Some.ensures.stands)) can
+    subst P (sym (stay_seen c.self.inside.windows.items c.in-Some.at c.index_mut.result.now c.reserve-in-Some.new.self c.index_mut.ensures.value c.reserve-in-Some.ensures.stands ∙ ap (λ (v : Windows). map seen v.windows) c.self.view_is)) can
 
 pub returns-in-Some-clause-room : goal.returns-in-Some-clause-room
 unfolding HasBufferRoom
@@ -47,7 +45,7 @@ returns-in-Some-clause-room c =
     let t = c.args.self.now in
     let p = c.args.p in
     let w = c.index_mut.result.now in
-    let is = is_at t p c.in-Some.at w (sym (c.in-Some.ensures ∙ ap (position (is_owned_by p)) c.deref.ensures.value ∙ ap (λ (v : Windows). position (is_owned_by p) v.windows) c.self.view_is)) (c.index_mut.ensures.value ∙ ap (λ (v : Windows). get_or v.windows c.in-Some.at c.index_mut.result.now) c.self.view_is) in
+    let is = is_at _ t p c.in-Some.at w c.self.view_is c.self.invariant (rw c.deref.ensures.value at c.in-Some.ensures) c.index_mut.ensures.value in
     let x : OwnedWindow = record { owner = w.owner; window = c.reserve-in-Some.new.self } in
     let there : find (is_owned_by p) (set c.self.inside.windows.items c.in-Some.at x) ≡ Some x = ap (λ (v : Windows). find (is_owned_by p) (set v.windows c.in-Some.at x)) c.self.view_is ∙ left_at t p c.in-Some.at w x is refl in
     on_ok c.reserve-in-Some.result _ _ _ (λ notes room. (subst (λ o. RoomIn o c.args.start c.args.size) (sym there) room, notes)) c.in_ok-reserve.ensures.room c.reserve-in-Some.ensures.room
@@ -55,10 +53,7 @@ returns-in-Some-clause-room c =
 pub returns-in-Some-clause-grown : goal.returns-in-Some-clause-grown
 unfolding HasBufferRoom
 returns-in-Some-clause-grown c =
-    let t = c.args.self.now in
-    let p = c.args.p in
-    let w = c.index_mut.result.now in
-    let is = is_at t p c.in-Some.at w (sym (c.in-Some.ensures ∙ ap (position (is_owned_by p)) c.deref.ensures.value ∙ ap (λ (v : Windows). position (is_owned_by p) v.windows) c.self.view_is)) (c.index_mut.ensures.value ∙ ap (λ (v : Windows). get_or v.windows c.in-Some.at c.index_mut.result.now) c.self.view_is) in
+    let is = is_at _ c.args.self.now c.args.p c.in-Some.at c.index_mut.result.now c.self.view_is c.self.invariant (rw c.deref.ensures.value at c.in-Some.ensures) c.index_mut.ensures.value in
     on_err c.reserve-in-Some.result _ _ (λ none has. none (subst (λ o. RoomIn o c.args.start c.args.size) is.found has.0)) c.reserve-in-Some.ensures.grown
 
 pub returns-in_err-reserve-clause-can_add : goal.returns-in_err-reserve-clause-can_add
