@@ -6,7 +6,7 @@ use Rattle.std.specs.Option.{is_some}
 use Rattle.bd_uapi.specs.declared.fault.Cause.{Cause}
 use Rattle.std.proofs.lemmas.Bool.{false≢true, eqb-true}
 use Rattle.std.proofs.lemmas.List.{map_push, map-set, get_or-map, get_or-set_same, length-map}
-use Rattle.std.proofs.lemmas.List.Elements.{All-head, All-tail, All-filter, All-weaker}
+use Rattle.std.proofs.lemmas.List.Elements.{All-filter, All-map, All-weaker}
 use Rattle.std.proofs.lemmas.Option.{slice_get_read}
 use Rattle.std.proofs.Math.Seq.{map-set_same}
 use Rattle.std.proofs.Math.ListN as list
@@ -20,8 +20,8 @@ use Rattle.bd_space.specs.Windows.{buffers_of}
 use Rattle.bd_space.specs.Freeing.{is_made_at}
 use Rattle.bd_space.specs.Returns.{buffer_in}
 use Rattle.bd_space.specs.ReadItems.{hand_out, handed_buffers}
-use Rattle.bd_keys.proofs.Rising.{Rising, distinct, find_at, find_none}
-use Rattle.bd_keys.proofs.Found.{any_some, found_has, none_found}
+use Rattle.bd_keys.proofs.Rising.{Rising, distinct, find_at}
+use Rattle.bd_keys.proofs.Found.{any_some, found_has}
 use Rattle.bd_space.proofs.Keyed.{changed_at, changed_none}
 use Rattle.bd_buffers.specs.declared.window.Window.{Window}
 use Rattle.bd_buffers.specs.declared.owned.OwnedWindow.{OwnedWindow}
@@ -30,10 +30,11 @@ use Rattle.bd_buffers.specs.Homes.{home_key, AreHomes, Forgets}
 use Rattle.bd_buffers.specs.Owners.{AreInOrder, StandsAt}
 use Rattle.bd_buffers.specs.Window as single
 use Rattle.bd_buffers.specs.WindowsStand.{ProcessWindow, seen, window_of, with_buffers, is_owned_by, is_of, AreMade, WindowsOf, Stands, buffers_held, CanHoldIn, made_of_buffer}
+use Rattle.bd_buffers.proofs.Changes.{none_left}
 use Rattle.bd_buffers.proofs.Homes.{homes_handed, homes_closed, home_finds, found_kept}
-use Rattle.bd_buffers.proofs.Made.{kept as among}
+use Rattle.bd_buffers.proofs.Made.{kept_some, look_found, same_keys}
 use Rattle.bd_buffers.proofs.InSpace.{added, added_elsewhere, kept_in, handed_in, others_stay}
-use Rattle.bd_buffers.proofs.Owners.{look_found, same_owners, no_process}
+use Rattle.bd_buffers.proofs.Owners.{no_process}
 use Rattle.bd_buffers.proofs.Standing.{found_of, filtered_of}
 use Rattle.bd_buffers.proofs.Order.{lives_below, process_made, buffer_made, made_kept, made_handed, process_gone}
 
@@ -72,16 +73,9 @@ one_changes t u bound after p ps bs new f e own other made homes stands = record
 not_received : (b : Buffer) (p : ℕ) → b.receiver < p → (b.receiver == p) ≡ false
 not_received b p lt = ne_eqb b.receiver p (λ e. absurd (omega (arith, e)))
 
--- a process receives nothing where each buffer is another's
-none_to : (p : ℕ) (bs : List Buffer) → All (λ b. (b.receiver == p) ≡ false) bs → buffers_of bs p ≡ []
-none_to p [] all = refl
-none_to p (b ∷ bs) all =
-    let P : Buffer → Type 0 = λ x. (x.receiver == p) ≡ false in
-    ap (λ k. cond k (b ∷ buffers_of bs p) (buffers_of bs p)) (All-head P b bs all) ∙ none_to p bs (All-tail P b bs all)
-
 none_for : (ps : List Process) (bound : ℕ) (bs : List Buffer) → All (λ q. q.made < bound) ps → All (λ (b : Buffer). lives_in ps b.receiver ≡ true) bs → buffers_of bs bound ≡ []
 none_for ps bound bs before all =
-    none_to bound bs (All-weaker (λ (b : Buffer). lives_in ps b.receiver ≡ true) (λ b. (b.receiver == bound) ≡ false)
+    none_left (λ b. b.receiver == bound) bs (All-weaker (λ (b : Buffer). lives_in ps b.receiver ≡ true) (λ b. (b.receiver == bound) ≡ false)
     (λ b lives. not_received b bound (lives_below ps bound b.receiver before lives)) bs all)
 
 pub opened : (t u : Windows) (bound : ℕ) (ps : List Process) (bs : List Buffer) (q : Process) (w : OwnedWindow) → q.made ≡ bound → w.owner ≡ q.made → Stands w.window q.window []
@@ -116,21 +110,25 @@ handed t u bound p made ps bs e other homes stands =
 
 -- ---- a process that ends
 
-close_first : (bs : List Buffer) (p : ℕ) (q : Process) (ps : List Process) (b : Bool) → (q.made == p) ≡ b
-    → filter (λ x. not (is_of p x)) (map (window_of bs) ps) ≡ map (window_of (filter (λ b. not (b.receiver == p)) bs)) (filter (λ q. not (q.made == p)) ps)
-    → cond (not b) (window_of bs q ∷ filter (λ x. not (is_of p x)) (map (window_of bs) ps)) (filter (λ x. not (is_of p x)) (map (window_of bs) ps))
-    ≡ map (window_of (filter (λ b. not (b.receiver == p)) bs)) (cond (not b) (q ∷ filter (λ q. not (q.made == p)) ps) (filter (λ q. not (q.made == p)) ps))
-close_first bs p q ps true e rest = rest
-close_first bs p q ps false e rest =
-    let other : q.made ≢ p = λ same. absurd (false≢true (sym e ∙ eq-eqb q.made p same)) in
-    let head : window_of bs q ≡ window_of (filter (λ b. not (b.receiver == p)) bs) q =
-    ap (λ xs. record { owner = q.made; size = q.window; buffers = xs }) (sym (others_stay bs p q.made other)) in
-    cc
-
 close_all : (bs : List Buffer) (p : ℕ) (ps : List Process) → filter (λ x. not (is_of p x)) (map (window_of bs) ps)
     ≡ map (window_of (filter (λ b. not (b.receiver == p)) bs)) (filter (λ q. not (q.made == p)) ps)
 close_all bs p [] = refl
-close_all bs p (q ∷ ps) = close_first bs p q ps (q.made == p) refl (close_all bs p ps)
+close_all bs p (q ∷ ps) = first (q.made == p) refl (close_all bs p ps)
+  where
+    others : List Buffer
+    others = filter (λ b. not (b.receiver == p)) bs
+
+    left : List ProcessWindow
+    left = filter (λ x. not (is_of p x)) (map (window_of bs) ps)
+
+    ended : List Process
+    ended = filter (λ q. not (q.made == p)) ps
+
+    first : (b : Bool) → (q.made == p) ≡ b → left ≡ map (window_of others) ended → cond (not b) (window_of bs q ∷ left) left ≡ map (window_of others) (cond (not b) (q ∷ ended) ended)
+    first true e rest = rest
+    first false e rest =
+        let same = others_stay bs p q.made (λ same. absurd (false≢true (sym e ∙ eq-eqb q.made p same))) in
+        ap (λ xs. record { owner = q.made; size = q.window; buffers = xs } ∷ left) (sym same) ∙ ap (λ xs. window_of others q ∷ xs) rest
 
 pub closed : (t u : Windows) (bound p : ℕ) (ps : List Process) (bs : List Buffer) → u.windows ≡ filter (λ w. not (is_owned_by p w)) t.windows
     → AreHomes u.homes (filter (λ b. not (b.receiver == p)) bs) → WindowsOf t bound ps bs → WindowsOf u bound (filter (λ q. not (q.made == p)) ps) (filter (λ b. not (b.receiver == p)) bs)
@@ -219,7 +217,7 @@ left_at t p i w x is own =
     let owners : map owner ws ≡ map owner t.windows = map-set_same owner t.windows i x w (own ∙ ap owner is.at) in
     let len : length ws ≡ length t.windows = sym (length-map ws owner) ∙ ap length owners ∙ length-map t.windows owner in
     let here : (d : OwnedWindow) → get_or ws i d ≡ x = λ d. get_or-set_same t.windows i x d is.within in
-    find_at owner p ws i x (distinct owner ws (same_owners t.windows ws owners is.order)) (omega (arith, len, is.within)) (λ d. ap owner (here d) ∙ own ∙ is.owner_is) ∙ ap (λ y. Some y) (here x)
+    find_at owner p ws i x (distinct owner ws (same_keys owner t.windows ws owners is.order)) (omega (arith, len, is.within)) (λ d. ap owner (here d) ∙ own ∙ is.owner_is) ∙ ap (λ y. Some y) (here x)
 
 -- the windows are seen as before where one is changed that still stands for the same
 pub stay_seen : (ws : List OwnedWindow) (i : ℕ) (w : OwnedWindow) (new : Window) → w ≡ get_or ws i w → ((size : ℕ) (bs : List Buffer) → Stands w.window size bs → Stands new size bs)
@@ -248,12 +246,10 @@ can_hold_back t p w one_way size start found can =
 
 -- what stands at an index is the window of the process there
 at_index : (t : Windows) (bound i : ℕ) (ps : List Process) (bs : List Buffer) (w : OwnedWindow) → WindowsOf t bound ps bs → i < length t.windows → w ≡ get_or t.windows i w
-    → (i < length ps) × (seen w ≡ window_of bs (get_or ps i no_process))
+    → seen w ≡ window_of bs (get_or ps i no_process)
 at_index t bound i ps bs w stands within at =
-    let h : i < length ps = omega (arith, length-map t.windows seen, ap length stands.windows_are, length-map ps (window_of bs)) in (
-      h,
-      ap seen at ∙ sym (list.get_or-map seen t.windows i w) ∙ ap (λ xs. get_or xs i (seen w)) stands.windows_are ∙ get_or-map (window_of bs) ps i no_process (seen w) h,
-    )
+    ap seen at ∙ sym (list.get_or-map seen t.windows i w) ∙ ap (λ xs. get_or xs i (seen w)) stands.windows_are
+    ∙ get_or-map (window_of bs) ps i no_process (seen w) (omega (arith, within, length-map t.windows seen, ap length stands.windows_are, length-map ps (window_of bs)))
 
 pub buffer_added : (t u : Windows) (bound : ℕ) (ps : List Process) (bs : List Buffer) (b : Buffer) (w : OwnedWindow) → b.made ≡ bound → find (is_owned_by b.receiver) t.windows ≡ Some w
     → map seen u.windows ≡ changed (is_of b.receiver) (with_buffers (λ xs. xs ++ b ∷ [])) (map seen t.windows) → AreHomes u.homes (bs ++ b ∷ []) → WindowsOf t bound ps bs
@@ -274,49 +270,13 @@ pub guessed : (t : Windows) (bound i made : ℕ) (ps : List Process) (bs : List 
     → Some b ≡ buffer_in w.window.buffers made → Some b ≡ buffer_in bs made
 guessed t bound i made ps bs w b stands within at found =
     let q = get_or ps i no_process in
-    let there = at_index t bound i ps bs w stands within at in
-    one_kept (λ x. x.receiver == q.made) (buffer_in bs made)
-    (found ∙ ap (λ (x : ProcessWindow). buffer_in x.buffers made) there.1 ∙ found_kept (λ x. x.receiver == q.made) bs made stands.made.buffers_in_order)
-  where
-    by_test : (x : Buffer) (k : Bool) → Some b ≡ cond k (Some x) None → Some b ≡ Some x
-    by_test x true e = e
-    by_test x false e = cc
-
-    one_kept : (keep : Buffer → Bool) (o : Option Buffer) → Some b ≡ among keep o → Some b ≡ o
-    one_kept keep None e = e
-    one_kept keep (Some x) e = by_test x (keep x) e
-
--- what was made there lies in the window of the process whose home it is
-pub looked_up : (t : Windows) (bound made p : ℕ) (ps : List Process) (bs : List Buffer) (w : OwnedWindow) → WindowsOf t bound ps bs → look t.homes (home_key made) ≡ Some p
-    → find (is_owned_by p) t.windows ≡ Some w → buffer_in w.window.buffers made ≡ buffer_in bs made
-looked_up t bound made p ps bs w stands home found = by_process (process_in ps p) refl
-  where
-    by_process : (o : Option Process) → process_in ps p ≡ o → buffer_in w.window.buffers made ≡ buffer_in bs made
-    by_process None e = absurd (owner_gone t bound p ps bs w stands e found)
-    by_process (Some q) e =
-        let own = owner_found t bound p ps bs q w stands e found in
-        ap (λ xs. buffer_in xs made) own.buffers_are ∙ home_finds t.homes bs made p stands.made.buffers_in_order stands.homes_are home
-
-pub looked_past : (t : Windows) (bound made p : ℕ) (ps : List Process) (bs : List Buffer) → WindowsOf t bound ps bs → look t.homes (home_key made) ≡ Some p
-    → find (is_owned_by p) t.windows ≡ None → buffer_in bs made ≡ None
-looked_past t bound made p ps bs stands home missed = by_process (process_in ps p) refl
-  where
-    by_process : (o : Option Process) → process_in ps p ≡ o → buffer_in bs made ≡ None
-    by_process (Some q) e = absurd (owner_missed t bound p ps bs q stands e missed)
-    by_process None e = by_buffer (buffer_in bs made) refl
-      where
-        by_buffer : (o : Option Buffer) → buffer_in bs made ≡ o → o ≡ None
-        by_buffer None f = refl
-        by_buffer (Some b) f =
-            let lives = found_has (is_made_at made) (λ (x : Buffer). lives_in ps x.receiver ≡ true) bs b f stands.made.received in
-            let there : Some p ≡ Some b.receiver = sym home ∙ stands.homes_are made ∙ ap (option_map (λ (x : Buffer). x.receiver)) f in
-            let same : b.receiver ≡ p = cc in
-            absurd (false≢true (sym (not_living ps p e) ∙ ap (lives_in ps) (sym same) ∙ lives.0))
+    let seen_there = ap (λ (x : ProcessWindow). buffer_in x.buffers made) (at_index t bound i ps bs w stands within at) in
+    sym (kept_some (λ (x : Buffer). x.receiver == q.made) (buffer_in bs made) b (sym (found ∙ seen_there ∙ found_kept (λ x. x.receiver == q.made) bs made stands.made.buffers_in_order))).0
 
 -- who doesn't live receives nothing
 none_received : (ps : List Process) (p : ℕ) (bs : List Buffer) → process_in ps p ≡ None → All (λ (b : Buffer). lives_in ps b.receiver ≡ true) bs → buffers_of bs p ≡ []
 none_received ps p bs gone all =
-    none_to p bs (All-weaker (λ (b : Buffer). lives_in ps b.receiver ≡ true) (λ b. (b.receiver == p) ≡ false)
+    none_left (λ b. b.receiver == p) bs (All-weaker (λ (b : Buffer). lives_in ps b.receiver ≡ true) (λ b. (b.receiver == p) ≡ false)
     (λ b lives. ne_eqb b.receiver p (λ e. false≢true (sym (not_living ps p gone) ∙ ap (lives_in ps) (sym e) ∙ lives))) bs all)
 
 pub held : (t : Windows) (bound p : ℕ) (ps : List Process) (bs : List Buffer) → WindowsOf t bound ps bs → buffers_held (find (is_owned_by p) t.windows) ≡ buffers_of bs p
@@ -327,6 +287,13 @@ held t bound p ps bs stands = by_window (find (is_owned_by p) t.windows) (proces
     by_window None (Some q) e f = absurd (owner_missed t bound p ps bs q stands f e)
     by_window (Some w) None e f = absurd (owner_gone t bound p ps bs w stands f e)
     by_window (Some w) (Some q) e f = (owner_found t bound p ps bs q w stands f e).buffers_are
+
+-- what was made there lies in the window of the process whose home it is
+pub looked_up : (t : Windows) (bound made p : ℕ) (ps : List Process) (bs : List Buffer) (o : Option OwnedWindow) → WindowsOf t bound ps bs → look t.homes (home_key made) ≡ Some p
+    → find (is_owned_by p) t.windows ≡ o → buffer_in (buffers_held o) made ≡ buffer_in bs made
+looked_up t bound made p ps bs o stands home found =
+    ap (λ x. buffer_in (buffers_held x) made) (sym found) ∙ ap (λ xs. buffer_in xs made) (held t bound p ps bs stands)
+    ∙ home_finds t.homes bs made p stands.made.buffers_in_order stands.homes_are home
 
 -- the homes left where those of one process's buffers go
 pub homes_left : (t : Windows) (bound p : ℕ) (ps : List Process) (bs : List Buffer) (left : WordMap ℕ) → WindowsOf t bound ps bs
@@ -358,9 +325,7 @@ one_made ws p i w new f order here at stands =
     ∙ sym (changed_at owner (with_buffers f) p (map seen ws) i (seen w) (distinct owner (map seen ws) (rising_seen ws w order)) (omega (arith, here.0, length-map ws seen)) there)
 
 pub one_missed : (ws : List OwnedWindow) (p : ℕ) (f : List Buffer → List Buffer) → StandsAt ws p None → map seen ws ≡ changed (is_of p) (with_buffers f) (map seen ws)
-one_missed ws p f none =
-    sym (changed_none (λ (y : ProcessWindow). y.owner) (with_buffers f) p (map seen ws)
-    (none_found (is_of p) (map seen ws) (found_of seen (is_of p) ws ∙ ap (option_map seen) (find_none (λ (w : OwnedWindow). w.owner) p ws none))))
+one_missed ws p f none = sym (changed_none (λ (y : ProcessWindow). y.owner) (with_buffers f) p (map seen ws) (All-map (λ (x : ProcessWindow). (x.owner == p) ≡ false) seen ws none))
 
 pub can_hold_nowhere : (t : Windows) (p : ℕ) (one_way : Bool) (size start : ℕ) → find (is_owned_by p) t.windows ≡ None
     → CanHoldIn (find (is_of p) (map seen t.windows)) one_way size start → ⊥

@@ -1,6 +1,6 @@
 -- Lists with some elements changed or left out.
-use Rattle.std.proofs.Common.{zero, suc, Bool, true, false, cond, List, [], ◌∷◌, arith, All}
-use Rattle.std.specs.Prelude.{AllPairs}
+use Rattle.std.proofs.Common.{◌≡◌, ◌∙◌, zero, suc, Bool, true, false, cond, List, [], ◌∷◌, refl, ap, arith, All, Ok, Err}
+use Rattle.std.specs.Prelude.{AllPairs, Result, OnOk, OnErr, filter}
 use Rattle.std.proofs.lemmas.List.Elements.{All-cons, All-head, All-tail}
 use Rattle.bd_space.specs.Words.{changed}
 use Rattle.bd_keys.proofs.Rising.{pairs_head, pairs_tail}
@@ -12,17 +12,26 @@ All_changed p f P k (x ∷ xs) all =
     let head : P (cond (p x) (f x) x) = elim (p x) as (λ b. P (cond b (f x) x)) [ true ↦ k x (All-head P x xs all) | false ↦ All-head P x xs all ] in
     All-cons P (cond (p x) (f x) x) (changed p f xs) head (All_changed p f P k xs (All-tail P x xs all))
 
--- and what each has had
-pub All_unchanged : {A : Type 0} (p : A → Bool) (f : A → A) (P : A → Type 0) → ((x : A) → P (f x) → P x) → (xs : List A) → All P (changed p f xs) → All P xs
-All_unchanged p f P k [] all = all
-All_unchanged p f P k (x ∷ xs) all =
-    let first = All-head P (cond (p x) (f x) x) (changed p f xs) all in
-    let head : P x = before p f P k x (p x) first in
-    All-cons P x xs head (All_unchanged p f P k xs (All-tail P (cond (p x) (f x) x) (changed p f xs) all))
-  where
-    before : {A : Type 0} (p : A → Bool) (f : A → A) (P : A → Type 0) → ((x : A) → P (f x) → P x) → (x : A) (b : Bool) → P (cond b (f x) x) → P x
-    before p f P k x true h = k x h
-    before p f P k x false h = h
+-- nothing is left where none passes
+pub none_left : {A : Type 0} (p : A → Bool) (xs : List A) → All (λ x. p x ≡ false) xs → filter p xs ≡ []
+none_left p [] all = refl
+none_left p (x ∷ xs) all =
+    ap (λ t. cond t (x ∷ filter p xs) (filter p xs)) (All-head (λ y. p y ≡ false) x xs all) ∙ none_left p xs (All-tail (λ y. p y ≡ false) x xs all)
+
+-- ---- answers
+
+module _ {A E : Type 0} (P Q : Type 0) (f : P → Q) where
+  pub on_ok : (r : Result A E) → OnOk r P → OnOk r Q
+  on_ok (Ok x) p = f p
+  on_ok (Err e) p = tt
+
+  pub on_err : (r : Result A E) → OnErr r P → OnErr r Q
+  on_err (Ok x) p = tt
+  on_err (Err e) p = f p
+
+pub refused : {A E : Type 0} (r : Result A E) (P : Type 0) → P → OnErr r P
+refused (Ok x) P p = tt
+refused (Err e) P p = p
 
 -- ---- pairs
 

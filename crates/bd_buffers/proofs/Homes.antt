@@ -2,7 +2,6 @@
 use Rattle.std.proofs.Common.{◌≡◌, ◌≢◌, ℕ, zero, suc, ◌+◌, ◌<◌, Bool, true, false, cond, List, [], ◌∷◌, ◌++◌, get_or, take, refl, ap, sym, ◌∙◌, arith, All, subst, eq-eqb, ne_eqb}
 use Rattle.std.specs.Prelude.{◌==◌, not, find, filter, Some, None, Option, option_map}
 use Rattle.std.specs.Cmp.{both_ways}
-use Rattle.std.specs.List.{cons_option}
 use Rattle.std.specs.Option.{is_some, option_or, option_to_list}
 use Rattle.std.proofs.lemmas.Bool.{eqb-true, eqb-false}
 use Rattle.std.proofs.lemmas.List.{append-nil}
@@ -17,40 +16,20 @@ use Rattle.bd_space.specs.Windows.{buffers_of}
 use Rattle.bd_space.specs.Freeing.{is_made_at}
 use Rattle.bd_space.specs.Returns.{buffer_in}
 use Rattle.bd_space.specs.ReadItems.{hand_out}
+use Rattle.bd_space.proofs.Keyed.{tags_changed}
 use Rattle.bd_keys.proofs.Keys.{word_eq, word_self}
 use Rattle.bd_keys.proofs.Rising.{Rising, distinct, find_none}
 use Rattle.bd_keys.proofs.Found.{none_found, find_gone, find_stays, tags_more}
-use Rattle.bd_buffers.specs.declared.rows.Row.{Row}
 use Rattle.bd_buffers.specs.declared.record.Record.{Record}
 use Rattle.bd_buffers.specs.Record.{is_record_at, record_in}
 use Rattle.bd_buffers.specs.Homes.{home_key, AreHomes, Forgets, ForgetsRecords}
-use Rattle.bd_buffers.specs.Rows.{live, in_row}
-use Rattle.bd_buffers.proofs.Made.{kept, find_kept, none_of}
+use Rattle.bd_buffers.specs.Rows.{lives, live, kept, in_row}
+use Rattle.bd_buffers.proofs.Made.{find_kept, none_of}
 
 -- the keys of two places are the same where the places are
 key_word : (p q : ℕ) → same_word (home_key p) (home_key q) ≡ (p == q)
 key_word p q = both_ways (same_word (home_key p) (home_key q)) (p == q) (λ e. eq-eqb p q (ap (λ (k : WordKey). k.word) (word_eq (home_key p) (home_key q) e)))
     (λ e. ap (λ k. same_word (home_key p) (home_key k)) (sym (eqb-true p q e)) ∙ word_self (home_key p))
-
--- where a buffer is handed out
-module _ (test : Buffer → Bool) (of : Buffer → ℕ) (same : (b : Buffer) → test (hand_out b) ≡ test b) (alike : (b : Buffer) → of (hand_out b) ≡ of b) where
-  handed_first : (x : Buffer) (b : Bool) (o r : Option Buffer) → option_map of o ≡ option_map of r
-      → option_map of (cond (test (cond b (hand_out x) x)) (Some (cond b (hand_out x) x)) o) ≡ option_map of (cond (test x) (Some x) r)
-  handed_first x true o r rest = ap (λ t. option_map of (cond t (Some (hand_out x)) o)) (same x) ∙ by_test (test x)
-    where
-      by_test : (t : Bool) → option_map of (cond t (Some (hand_out x)) o) ≡ option_map of (cond t (Some x) r)
-      by_test true = ap (λ n. Some n) (alike x)
-      by_test false = rest
-  handed_first x false o r rest = by_test (test x)
-    where
-      by_test : (t : Bool) → option_map of (cond t (Some x) o) ≡ option_map of (cond t (Some x) r)
-      by_test true = refl
-      by_test false = rest
-
-  -- what is told of the buffer that is found stays
-  told_handed : (q : Buffer → Bool) (bs : List Buffer) → option_map of (find test (changed q hand_out bs)) ≡ option_map of (find test bs)
-  told_handed q [] = refl
-  told_handed q (x ∷ bs) = handed_first x (q x) (find test (changed q hand_out bs)) (find test bs) (told_handed q bs)
 
 -- no buffer was made there
 abbrev pub NoneAt : ℕ → List Buffer → Type 0
@@ -132,26 +111,22 @@ pub homes_same : (homes left : WordMap ℕ) (bs : List Buffer) → ((k : WordKey
 homes_same homes left bs same are = λ m. same (home_key m) ∙ are m
 
 pub homes_handed : (homes : WordMap ℕ) (bs : List Buffer) (q : Buffer → Bool) → AreHomes homes bs → AreHomes homes (changed q hand_out bs)
-homes_handed homes bs q are = λ m. are m ∙ sym (told_handed (is_made_at m) (λ b. b.receiver) (λ b. refl) (λ b. refl) q bs)
+homes_handed homes bs q are = λ m. are m ∙ sym (tags_changed q hand_out made_of (λ b. refl) (λ b. b.receiver) (λ b. refl) m bs)
 
 -- ---- row after row
 
-first_alone : (o : Option Record) → cons_option o [] ≡ option_to_list o
-first_alone None = refl
-first_alone (Some b) = refl
-
-first_before : (o : Option Record) (bs cs : List Record) → cons_option o (bs ++ cs) ≡ cons_option o bs ++ cs
-first_before None bs cs = refl
-first_before (Some b) bs cs = refl
-
-front_next : (rows : List Row) (i : ℕ) → live (take (suc i) rows) ≡ live (take i rows) ++ option_to_list (in_row rows i)
+front_next : (rows : List Record) (i : ℕ) → live (take (suc i) rows) ≡ live (take i rows) ++ option_to_list (in_row rows i)
 front_next [] zero = refl
 front_next [] (suc i) = refl
-front_next (r ∷ rows) zero = first_alone r.buffer
-front_next (r ∷ rows) (suc i) = ap (cons_option r.buffer) (front_next rows i) ∙ first_before r.buffer (live (take i rows)) (option_to_list (in_row rows i))
+front_next (r ∷ rows) zero = elim (lives r) as (λ t. cond t (r ∷ []) [] ≡ option_to_list (cond t (Some r) None)) [ true ↦ refl | false ↦ refl ]
+front_next (r ∷ rows) (suc i) =
+    elim (lives r) as (λ t. cond t (r ∷ live (take (suc i) rows)) (live (take (suc i) rows)) ≡ cond t (r ∷ live (take i rows)) (live (take i rows)) ++ option_to_list (in_row rows i)) [
+      | true ↦ ap (λ xs. r ∷ xs) (front_next rows i)
+      | false ↦ front_next rows i
+    ]
 
 -- the live buffers of one row more
-pub front_more : (rows : List Row) (i : ℕ) (o : Option Record) → o ≡ in_row rows i → live (take (i + 1) rows) ≡ live (take i rows) ++ option_to_list o
+pub front_more : (rows : List Record) (i : ℕ) (o : Option Record) → o ≡ in_row rows i → live (take (i + 1) rows) ≡ live (take i rows) ++ option_to_list o
 front_more rows i o e =
     let next : i + 1 ≡ suc i = omega arith in
     ap (λ k. live (take k rows)) next ∙ front_next rows i ∙ ap (λ x. live (take i rows) ++ option_to_list x) (sym e)
@@ -162,7 +137,7 @@ either_gone None b false h = refl
 either_gone (Some x) b true h = refl
 either_gone (Some x) b false h = refl
 
-pub forgets_more : (rows : List Row) (i : ℕ) (b : Record) (old mid new : WordMap ℕ) → Some b ≡ in_row rows i → ForgetsRecords (live (take i rows)) old mid
+pub forgets_more : (rows : List Record) (i : ℕ) (b : Record) (old mid new : WordMap ℕ) → Some b ≡ in_row rows i → ForgetsRecords (live (take i rows)) old mid
     → ((k : WordKey) → look new k ≡ cond (same_word (home_key b.made) k) None (look mid k)) → ForgetsRecords (live (take (i + 1) rows)) old new
 forgets_more rows i b old mid new there forgets gone = λ m.
     gone (home_key m) ∙ ap (λ t. cond t None (look mid (home_key m))) (key_word b.made m) ∙ ap (λ h. cond (b.made == m) None h) (forgets m)
@@ -170,7 +145,7 @@ forgets_more rows i b old mid new there forgets gone = λ m.
     ∙ sym (ap (λ o. cond (is_some o) None (look old (home_key m)))
     (ap (find (is_record_at m)) (front_more rows i (Some b) there) ∙ find-append (is_record_at m) (live (take i rows)) (b ∷ [])))
 
-pub forgets_same : (rows : List Row) (i : ℕ) (old new : WordMap ℕ) → None ≡ in_row rows i → ForgetsRecords (live (take i rows)) old new → ForgetsRecords (live (take (i + 1) rows)) old new
+pub forgets_same : (rows : List Record) (i : ℕ) (old new : WordMap ℕ) → None ≡ in_row rows i → ForgetsRecords (live (take i rows)) old new → ForgetsRecords (live (take (i + 1) rows)) old new
 forgets_same rows i old new none forgets =
     let P : List Record → Type 0 = λ bs. ForgetsRecords bs old new in
     subst P (sym (front_more rows i None none ∙ append-nil (live (take i rows)))) forgets

@@ -41,7 +41,7 @@ module _ {A : Type 0} where
   filter_swap : (q r : A → Bool) (xs : List A) → filter q (filter r xs) ≡ filter r (filter q xs)
   filter_swap q r xs = filter_both q r xs ∙ filter_agree (λ x. r x && q x) (λ x. q x && r x) (λ x. and_comm (r x) (q x)) xs ∙ sym (filter_both r q xs)
 
-  filter_changed : (q p : A → Bool) (f : A → A) → ((x : A) → q (f x) ≡ q x) → (xs : List A) → filter q (changed p f xs) ≡ changed p f (filter q xs)
+  pub filter_changed : (q p : A → Bool) (f : A → A) → ((x : A) → q (f x) ≡ q x) → (xs : List A) → filter q (changed p f xs) ≡ changed p f (filter q xs)
   filter_changed q p f same [] = refl
   filter_changed q p f same (x ∷ xs) =
       let rest = filter_changed q p f same xs in
@@ -54,7 +54,7 @@ module _ {A : Type 0} where
       ]
 
   -- what goes, goes where the others don't pass anyway
-  filter_kept : (q r : A → Bool) → ((x : A) → q x ≡ true → r x ≡ true) → (xs : List A) → filter q (filter r xs) ≡ filter q xs
+  pub filter_kept : (q r : A → Bool) → ((x : A) → q x ≡ true → r x ≡ true) → (xs : List A) → filter q (filter r xs) ≡ filter q xs
   filter_kept q r both xs = filter_both q r xs ∙ filter_agree (λ x. r x && q x) q (λ x. by (q x) (r x) (both x)) xs
     where
       by : (a b : Bool) → (a ≡ true → b ≡ true) → (b && a) ≡ a

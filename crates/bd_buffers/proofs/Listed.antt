@@ -9,7 +9,7 @@ use Rattle.bd_space.specs.Returns.{buffer_in}
 use Rattle.bd_keys.proofs.Found.{by_key, found_has, none_found}
 use Rattle.bd_buffers.specs.Buffer.{IsApart, IsPlaced, at_pointer}
 use Rattle.bd_buffers.specs.Window.{IsWindow, AreStarts}
-use Rattle.bd_buffers.proofs.Made.{kept}
+use Rattle.bd_buffers.specs.Rows.{kept}
 use Rattle.bd_buffers.proofs.Units.{filled}
 
 -- buffers that lie apart begin with different units

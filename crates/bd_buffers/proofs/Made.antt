@@ -1,13 +1,18 @@
 -- Where a search by a key that rises ends, and what is found where elements come or go.
-use Rattle.std.proofs.Common.{◌≡◌, ℕ, ◌<◌, ◌≤◌, Bool, true, false, cond, List, [], ◌∷◌, length, get_or, refl, ap, sym, ◌∙◌, All, ltb}
+use Rattle.std.proofs.Common.{◌≡◌, ℕ, ◌<◌, ◌≤◌, Bool, true, false, cond, List, [], ◌∷◌, length, get_or, map, refl, ap, sym, ◌∙◌, arith, All, ltb}
 use Rattle.std.specs.Prelude.{◌==◌, find, filter, Some, None, Option, option_map, MatchOption, Result, Ok, Err}
 use Rattle.std.specs.List.Sorted.{IsNonDecreasingBy, IsPartitionedBy, IsPartitionPoint, IsBinarySearchResult, IsSearchInRange}
 use Rattle.std.proofs.lemmas.Bool.{eqb-true, ltb-true, ltb-false}
 use Rattle.std.proofs.lemmas.List.Sorted.{IsPartitionedBy-ltb}
+use Rattle.std.proofs.lemmas.List.{length-map}
+use Rattle.std.proofs.lemmas.Option.{slice_get-get_or}
+use Rattle.std.proofs.Math.ListN as list
+use Rattle.std.specs.List.{slice_get}
 use Rattle.std.specs.Ordering.{nat_cmp}
 use Rattle.std.specs.Result.{result_ok}
-use Rattle.bd_keys.proofs.Rising.{Rising, Distinct, find_none, rest_differ, pairs_tail}
+use Rattle.bd_keys.proofs.Rising.{Rising, Distinct, distinct, find_at, find_none, rest_differ, pairs_tail}
 use Rattle.bd_keys.proofs.Rising.{searched as by_halves}
+use Rattle.bd_buffers.specs.Rows.{kept}
 
 module _ {A : Type 0} (key : A → ℕ) where
   -- where a search by the key ends
@@ -25,9 +30,13 @@ module _ {A : Type 0} (key : A → ℕ) where
 
 -- ---- what is found where those that aren't kept go
 
-abbrev pub kept : {A : Type 0} → (A → Bool) → Option A → Option A
-kept keep None = None
-kept keep (Some x) = cond (keep x) (Some x) None
+pub kept_some : {A : Type 0} (keep : A → Bool) (o : Option A) (x : A) → kept keep o ≡ Some x → (o ≡ Some x) × (keep x ≡ true)
+kept_some keep None x e = cc
+kept_some keep (Some y) x e = by (keep y) refl e
+  where
+    by : (b : Bool) → keep y ≡ b → cond b (Some y) None ≡ Some x → (Some y ≡ Some x) × (keep x ≡ true)
+    by true t f = let same : y ≡ x = cc in (f, ap keep (sym same) ∙ t)
+    by false t f = cc
 
 module _ {A : Type 0} (key : A → ℕ) (keep : A → Bool) (m : ℕ) where
   kept_first : (x : A) (xs : List A) (a b : Bool) → (key x == m) ≡ a → keep x ≡ b → Distinct key (x ∷ xs) → find (λ y. key y == m) (filter keep xs) ≡ kept keep (find (λ y. key y == m) xs)
@@ -46,3 +55,18 @@ module _ {A : Type 0} (key : A → ℕ) (keep : A → Bool) (m : ℕ) where
 pub none_of : {A B : Type 0} (f : A → B) (o : Option A) → None ≡ option_map f o → None ≡ o
 none_of f None e = refl
 none_of f (Some x) e = cc
+
+-- ---- where one stands, and where places stay
+
+module _ {A : Type 0} (key : A → ℕ) where
+  pub look_found : (m : ℕ) (xs : List A) (i : ℕ) → Rising key xs → i < length xs → ((d : A) → key (get_or xs i d) ≡ m) → slice_get xs i ≡ find (λ x. key x == m) xs
+  look_found m [] i rising lt at = absurd (omega arith)
+  look_found m (x ∷ xs) i rising lt at = slice_get-get_or (x ∷ xs) i x lt ∙ sym (find_at key m (x ∷ xs) i x (distinct key (x ∷ xs) rising) lt at)
+
+  pub same_keys : (xs ys : List A) → map key ys ≡ map key xs → Rising key xs → Rising key ys
+  same_keys xs ys e rising i j d lt h =
+      let len : length ys ≡ length xs = sym (length-map ys key) ∙ ap length e ∙ length-map xs key in
+      let first = sym (list.get_or-map key ys i d) ∙ ap (λ ns. get_or ns i (key d)) e ∙ list.get_or-map key xs i d in
+      let second = sym (list.get_or-map key ys j d) ∙ ap (λ ns. get_or ns j (key d)) e ∙ list.get_or-map key xs j d in
+      let up = rising i j d lt (omega (arith, len, h)) in
+      omega (arith, first, second, up)

@@ -110,9 +110,25 @@ keeps_memory rs g left is size one_way senders starts kept longer units tiles =
 abbrev pub AreBeside : List ℕ → List ℕ → Record → Type 0
 AreBeside m n r = (x : Record) → IsInMemory m x → (x.start + x.size ≤ r.start) ⊎ (r.start + r.size ≤ x.start) → standing n x ≡ standing m x
 
-module _ (r : Record) (rs : List Record) (g left : Ground) (is : Keeps rs g) (newest : All (λ x. x.made < r.made) rs)
-    (sized : r.size ≡ needed (length (standing left.memory r).bytes) (length (standing left.memory r).offsets))
-    (place : start_for g.size (all_standing g.memory rs) r.one_way r.size ≡ Ok r.start) (others : AreBeside g.memory left.memory r) where
+-- a record that lays a new buffer out beside those that are there
+pub record IsNew (r : Record) (rs : List Record) (g : Ground) (m : List ℕ) : Type 0 where
+  pub newest : All (λ x. x.made < r.made) rs
+  pub sized : r.size ≡ needed (length (standing m r).bytes) (length (standing m r).offsets)
+  pub place : start_for g.size (all_standing g.memory rs) r.one_way r.size ≡ Ok r.start
+  pub others : AreBeside g.memory m r
+
+-- where it stands for a buffer that may come
+pub is_new : (b : Buffer) (r : Record) (rs : List Record) (g : Ground) (m : List ℕ) → standing m r ≡ b → All (λ x. x.made < b.made) (all_standing g.memory rs) → b.size ≡ needed (length b.bytes) (length b.offsets)
+    → start_for g.size (all_standing g.memory rs) b.one_way b.size ≡ Ok b.start
+    → ((x : Record) → IsInMemory g.memory x → (x.start + x.size ≤ b.start) ⊎ (b.start + b.size ≤ x.start) → standing m x ≡ standing g.memory x) → IsNew r rs g m
+is_new b r rs g m e newest sized place others = record {
+  newest = all_of (standing g.memory) (λ x. x.made < r.made) rs (subst (λ (x : Buffer). All (λ (y : Buffer). y.made < x.made) (all_standing g.memory rs)) (sym e) newest);
+  sized = subst (λ (x : Buffer). x.size ≡ needed (length x.bytes) (length x.offsets)) (sym e) sized;
+  place = subst (λ (x : Buffer). start_for g.size (all_standing g.memory rs) x.one_way x.size ≡ Ok x.start) (sym e) place;
+  others = λ x is side. others x is (subst (λ (y : Buffer). (x.start + x.size ≤ y.start) ⊎ (y.start + y.size ≤ x.start)) e side);
+}
+
+module _ (r : Record) (rs : List Record) (g left : Ground) (is : Keeps rs g) (comes : IsNew r rs g left.memory) where
   abbrev old : List Buffer
   old = all_standing g.memory rs
 
@@ -120,19 +136,21 @@ module _ (r : Record) (rs : List Record) (g left : Ground) (is : Keeps rs g) (ne
   new = standing left.memory r
 
   pub given : IsGiven g.size old r.one_way r.size r.start
-  given = given_says g.size old r.one_way r.size r.start place
+  given = given_says g.size old r.one_way r.size r.start comes.place
 
   others_stay : all_standing left.memory rs ≡ old
   others_stay =
       let free = all_of (standing g.memory) (IsApart r.start r.size) rs given.least.room.free in
-      same_standing g.memory left.memory rs (λ k d lt. others (get_or rs k d) (is.there k d lt) (elim (free k d lt) [ inl x ↦ inr x | inr x ↦ inl x ]))
+      same_standing g.memory left.memory rs (λ k d lt. comes.others (get_or rs k d) (is.there k d lt) (elim (free k d lt) [ inl x ↦ inr x | inr x ↦ inl x ]))
 
   pub with_new : all_standing left.memory (rs ++ r ∷ []) ≡ old ++ new ∷ []
   with_new = pushed_standing left.memory rs r ∙ ap (λ xs. xs ++ new ∷ []) others_stay
 
   -- a hole begins there that has its room, or the tail
   pub begins : Begins g.spans (r.size / 8) (r.start / 8)
-  begins = begins_there g.size g.spans.size old is.notes.whole is.notes.window.placed g.spans r.size r.start refl is.notes.tiles (omega (arith, sized)) (omega (arith, sized)) given.least
+  begins =
+      let sized = comes.sized in
+      begins_there g.size g.spans.size old is.notes.whole is.notes.window.placed g.spans r.size r.start refl is.notes.tiles (omega (arith, sized)) (omega (arith, sized)) given.least
 
   pub keeps_pushed : IsInMemory left.memory r → length left.memory ≡ length g.memory → left.size ≡ g.size → left.spans.size ≡ g.spans.size
       → Tiles (without (r.start / 8) (r.size / 8) (is_free_unit old)) left.spans
@@ -142,8 +160,9 @@ module _ (r : Record) (rs : List Record) (g left : Ground) (is : Keeps rs g) (ne
       let notes = is.notes in
       let whole = notes.whole in
       let total = notes.total in
+      let sized = comes.sized in
       let pushed = total_push is_one_way old new in
-      let window : IsWindow g.size (old ++ new ∷ []) = window_push g.size old new notes.window (All-map (λ b. b.made < r.made) (standing g.memory) rs newest) sized place in
+      let window : IsWindow g.size (old ++ new ∷ []) = window_push g.size old new notes.window (All-map (λ b. b.made < r.made) (standing g.memory) rs comes.newest) sized comes.place in
       let placed = all_last (IsPlaced g.size) old new window.placed in
       let noted : Notes (old ++ new ∷ []) left = record {
         window = subst (λ n. IsWindow n (old ++ new ∷ [])) (sym size) window;

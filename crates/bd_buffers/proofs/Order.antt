@@ -1,8 +1,8 @@
 -- Processes and buffers stay in the order in which they were made.
-use Rattle.std.proofs.Common.{◌≡◌, ℕ, ◌+◌, ◌<◌, ◌≤◌, Bool, true, false, cond, List, [], ◌∷◌, ◌++◌, refl, ap, ◌∙◌, arith, All}
+use Rattle.std.proofs.Common.{◌≡◌, ℕ, ◌+◌, ◌<◌, ◌≤◌, Bool, true, false, List, [], ◌∷◌, ◌++◌, get_or, refl, ap, ◌∙◌, arith, All}
 use Rattle.std.specs.Prelude.{◌==◌, ◌||◌, not, filter}
 use Rattle.std.proofs.lemmas.Bool.{false≢true, eqb-true}
-use Rattle.std.proofs.lemmas.List.Elements.{All-cons, All-head, All-tail, All-push, All-weaker, All-filter}
+use Rattle.std.proofs.lemmas.List.Elements.{All-head, All-tail, All-push, All-weaker, All-filter, filter_passes}
 use Rattle.std.proofs.lemmas.List.Quantifiers.{all_pairs_push}
 use Rattle.std.proofs.lemmas.List.Kept.{AllPairs-filter}
 use Rattle.std.proofs.lemmas.List.Folds.{list_any-append}
@@ -34,15 +34,8 @@ lives_after : (ps : List Process) (p r : ℕ) → not (r == p) ≡ true → live
 lives_after ps p r other e =
     any-filter_same (λ (x : Process). x.made == r) (λ x. not (x.made == p)) true (λ x same. ap (λ n. not (n == p)) (eqb-true x.made r same) ∙ other) ps ∙ e
 
-module _ {A : Type 0} (p : A → Bool) (P Q : A → Type 0) where
-  first_filtered : ((x : A) → p x ≡ true → P x → Q x) → (x : A) (xs : List A) (b : Bool) → p x ≡ b → P x → All Q (filter p xs)
-      → All Q (cond b (x ∷ filter p xs) (filter p xs))
-  first_filtered k x xs true e head rest = All-cons Q x (filter p xs) (k x e head) rest
-  first_filtered k x xs false e head rest = rest
-
-  pub All_filtered : ((x : A) → p x ≡ true → P x → Q x) → (xs : List A) → All P xs → All Q (filter p xs)
-  All_filtered k [] all = λ i d h. absurd (omega arith)
-  All_filtered k (x ∷ xs) all = first_filtered k x xs (p x) refl (All-head P x xs all) (All_filtered k xs (All-tail P x xs all))
+All_filtered : {A : Type 0} (p : A → Bool) (P Q : A → Type 0) → ((x : A) → p x ≡ true → P x → Q x) → (xs : List A) → All P xs → All Q (filter p xs)
+All_filtered p P Q k xs all i d h = k (get_or (filter p xs) i d) (filter_passes p xs i d h) (All-filter p P xs all i d h)
 
 -- ---- each change
 

@@ -1,9 +1,9 @@
 -- Windows by whose they are: their owners rise.
 use Rattle.std.proofs.Common.{◌≡◌, ℕ, ◌<◌, Bool, true, false, cond, List, [], ◌∷◌, length, get_or, map, refl, ap, sym, ◌∙◌, arith, All, Some, None, ◌-◌, subst, ltb}
-use Rattle.std.specs.Prelude.{◌==◌, find, filter, Option, IfSome, option_copied, is_some}
+use Rattle.std.specs.Prelude.{filter, Option, IfSome, option_copied, is_some}
 use Rattle.std.specs.List.{slice_get}
 use Rattle.std.proofs.lemmas.Bool.{ltb-true, ltb-false}
-use Rattle.std.proofs.lemmas.Option.{get_or_from_slice_get, slice_get_past, slice_get_read, slice_get-get_or}
+use Rattle.std.proofs.lemmas.Option.{get_or_from_slice_get, slice_get_past, slice_get_read}
 use Rattle.std.proofs.lemmas.List.{length-map, get_or-map}
 use Rattle.std.proofs.lemmas.List.Kept.{AllPairs-filter}
 use Rattle.std.proofs.Math.ListN as list
@@ -11,17 +11,12 @@ use denote.Ref.{Bor}
 use Rattle.bd_space.specs.declared.space.Process.{Process}
 use Rattle.bd_space.specs.declared.space.Buffer.{Buffer}
 use Rattle.bd_space.specs.Words.{changed}
-use Rattle.bd_keys.proofs.Rising.{Rising, distinct, find_at}
 use Rattle.bd_buffers.specs.declared.owned.OwnedWindow.{OwnedWindow}
+use Rattle.bd_buffers.proofs.Made.{same_keys}
 use Rattle.bd_buffers.specs.Owners.{AreInOrder}
 use Rattle.bd_buffers.specs.WindowsStand.{ProcessWindow, seen, window_of, with_buffers, is_of}
 
 -- ---- where one stands
-
-pub look_found : {A : Type 0} (key : A → ℕ) (m : ℕ) (xs : List A) (i : ℕ) → Rising key xs → i < length xs → ((d : A) → key (get_or xs i d) ≡ m)
-    → slice_get xs i ≡ find (λ x. key x == m) xs
-look_found key m [] i rising lt at = absurd (omega arith)
-look_found key m (x ∷ xs) i rising lt at = slice_get-get_or (x ∷ xs) i x lt ∙ sym (find_at key m (x ∷ xs) i x (distinct key (x ∷ xs) rising) lt at)
 
 pub look_copied : {A : Type 0} (o : Option (Bor A)) (xs : List A) (i : ℕ) → is_some o ≡ ltb i (length xs) → IfSome o (λ x. x.now ≡ get_or xs i x.now) → option_copied o ≡ slice_get xs i
 look_copied None xs i e at = sym (slice_get_past xs i (ltb-false i (length xs) (sym e)))
@@ -35,15 +30,6 @@ last_has P (y ∷ xs) x e all = subst P (get_or_from_slice_get (y ∷ xs) (lengt
 
 abbrev owners : List OwnedWindow → List ℕ
 owners ws = map (λ w. w.owner) ws
-
-pub same_owners : (ws new : List OwnedWindow) → owners new ≡ owners ws → AreInOrder ws → AreInOrder new
-same_owners ws new e order i j d lt h =
-    let owner = λ (w : OwnedWindow). w.owner in
-    let len : length new ≡ length ws = sym (length-map new owner) ∙ ap length e ∙ length-map ws owner in
-    let first = sym (list.get_or-map owner new i d) ∙ ap (λ ns. get_or ns i (owner d)) e ∙ list.get_or-map owner ws i d in
-    let second = sym (list.get_or-map owner new j d) ∙ ap (λ ns. get_or ns j (owner d)) e ∙ list.get_or-map owner ws j d in
-    let up = order i j d lt (omega (arith, len)) in
-    omega (arith, first, second, up)
 
 -- where some go
 pub order_kept : (keep : OwnedWindow → Bool) (ws new : List OwnedWindow) → new ≡ filter keep ws → AreInOrder ws → AreInOrder new
@@ -62,7 +48,7 @@ owners_one f p (x ∷ xs) =
 
 pub order_one : (f : List Buffer → List Buffer) (p : ℕ) (ws new : List OwnedWindow) → map seen new ≡ changed (is_of p) (with_buffers f) (map seen ws) → AreInOrder ws → AreInOrder new
 order_one f p ws new e order =
-    same_owners ws new (owners_seen new ∙ ap (map (λ (x : ProcessWindow). x.owner)) e ∙ owners_one f p (map seen ws) ∙ sym (owners_seen ws)) order
+    same_keys (λ (w : OwnedWindow). w.owner) ws new (owners_seen new ∙ ap (map (λ (x : ProcessWindow). x.owner)) e ∙ owners_one f p (map seen ws) ∙ sym (owners_seen ws)) order
 
 -- ---- whose they are
 

@@ -26,26 +26,22 @@ module _ {A B : Type 0} (f : A → B) where
   map_remove (x ∷ xs) zero = refl
   map_remove (x ∷ xs) (suc i) = ap (λ ys. f x ∷ ys) (map_remove xs i)
 
-  find_first : (r : B → Bool) (x : A) (xs : List A) → find r (map f xs) ≡ option_map f (find (λ y. r (f y)) xs)
-      → cond (r (f x)) (Some (f x)) (find r (map f xs)) ≡ option_map f (cond (r (f x)) (Some x) (find (λ y. r (f y)) xs))
-  find_first r x xs rest =
-      elim (r (f x)) as (λ b. cond b (Some (f x)) (find r (map f xs)) ≡ option_map f (cond b (Some x) (find (λ y. r (f y)) xs))) [ true ↦ refl | false ↦ rest ]
-
   pub found_of : (r : B → Bool) (xs : List A) → find r (map f xs) ≡ option_map f (find (λ y. r (f y)) xs)
   found_of r [] = refl
-  found_of r (x ∷ xs) = find_first r x xs (found_of r xs)
+  found_of r (x ∷ xs) =
+      elim (r (f x)) as (λ b. cond b (Some (f x)) (find r (map f xs)) ≡ option_map f (cond b (Some x) (find (λ y. r (f y)) xs))) [ true ↦ refl | false ↦ found_of r xs ]
 
   pub all_of : (P : B → Type 0) (xs : List A) → All P (map f xs) → All (λ x. P (f x)) xs
   all_of P xs all k d lt = subst P (get_or-map f xs k d (f d) lt) (all k (f d) (omega (arith, length-map xs f, lt)))
 
-  filtered_first : (r : B → Bool) (x : A) (xs : List A) (b : Bool) → map f (filter (λ y. r (f y)) xs) ≡ filter r (map f xs)
-      → map f (cond b (x ∷ filter (λ y. r (f y)) xs) (filter (λ y. r (f y)) xs)) ≡ cond b (f x ∷ filter r (map f xs)) (filter r (map f xs))
-  filtered_first r x xs true rest = ap (λ ys. f x ∷ ys) rest
-  filtered_first r x xs false rest = rest
-
   pub filtered_of : (r : B → Bool) (xs : List A) → map f (filter (λ y. r (f y)) xs) ≡ filter r (map f xs)
   filtered_of r [] = refl
-  filtered_of r (x ∷ xs) = filtered_first r x xs (r (f x)) (filtered_of r xs)
+  filtered_of r (x ∷ xs) =
+      let rest = filtered_of r xs in
+      elim (r (f x)) as (λ b. map f (cond b (x ∷ filter (λ y. r (f y)) xs) (filter (λ y. r (f y)) xs)) ≡ cond b (f x ∷ filter r (map f xs)) (filter r (map f xs))) [
+        | true ↦ ap (λ ys. f x ∷ ys) rest
+        | false ↦ rest
+      ]
 
 module _ (m : List ℕ) where
   pub found_standing : (rs : List Record) (n : ℕ) → buffer_in (all_standing m rs) n ≡ option_map (standing m) (record_in rs n)

@@ -1,13 +1,12 @@
 -- What is free of a window, by bytes and by units of eight.
-use Rattle.std.proofs.Common.{◌≡◌, ℕ, ◌+◌, ◌-◌, ◌*◌, ◌/◌, ◌%◌, ◌<◌, ◌≤◌, Bool, true, false, cond, List, [], ◌∷◌, ◌++◌, length, get_or, map, refl, ap, sym, ◌∙◌, subst, arith, inl, inr, All}
-use Rattle.std.specs.Prelude.{◌&&◌, ◌||◌, not, remove, Some, None}
-use Rattle.std.specs.Cmp.{both_ways}
-use Rattle.std.proofs.Math.Bool.{and_assoc, and-true, or-true, or-false}
+use Rattle.std.proofs.Common.{◌≡◌, ℕ, zero, suc, ◌+◌, ◌-◌, ◌*◌, ◌/◌, ◌%◌, ◌<◌, ◌≤◌, Bool, true, false, cond, List, [], ◌∷◌, ◌++◌, length, get_or, map, refl, ap, sym, ◌∙◌, subst, arith, inl, inr, All}
+use Rattle.std.specs.Prelude.{◌&&◌, ◌||◌, not, remove, Some, None, AllPairs}
+use Rattle.std.specs.List.{list_all}
+use Rattle.std.proofs.Math.Bool.{and_assoc, and-true, and-false, or-true, or-false}
 use Rattle.std.proofs.lemmas.Bool.{cases_lt, cases_Bool, false≢true}
-use Rattle.std.proofs.lemmas.List.Elements.{All-weaker}
+use Rattle.std.proofs.lemmas.List.Elements.{All-weaker, All-cons}
 use Rattle.std.proofs.lemmas.List.Sums.{AllPass-from_list_all, list_all-from_AllPass}
-use Rattle.std.proofs.lemmas.List.Edits.{length-remove, get_or-remove_below, get_or-remove_above}
-use Rattle.bd_keys.proofs.Lists.{All_remove}
+use Rattle.bd_keys.proofs.Rising.{pairs_head, pairs_tail}
 use Rattle.bd_ground.specs.declared.spans.Spans.{Spans}
 use Rattle.bd_ground.specs.Tiles.{Tiles, IsRun, IsLeastRun, Begins, is_in, without, with_span}
 use Rattle.bd_ground.specs.Holes as units
@@ -168,39 +167,29 @@ tiles_more size bs b t is tiles =
 
 -- ---- one less
 
+-- what all others have towards the one at an index
+others : {A : Type 0} (R : A → A → Type 0) → ((x y : A) → R x y → R y x) → (xs : List A) (i : ℕ) (x : A) → i < length xs → ((d : A) → x ≡ get_or xs i d) → AllPairs R xs → All (R x) (remove xs i)
+others R turned [] i x lt at pairs = absurd (omega arith)
+others R turned (y ∷ xs) zero x lt at pairs = subst (λ z. All (R z) xs) (sym (at x)) (pairs_head R y xs pairs)
+others R turned (y ∷ xs) (suc i) x lt at pairs =
+    let first = subst (R y) (sym (at x)) (pairs_head R y xs pairs i x (omega arith)) in
+    All-cons (R x) y (remove xs i) (turned y x first) (others R turned xs i x (omega arith) at (pairs_tail R y xs pairs))
+
 -- a byte of one buffer is of no other
-others_out : (size i q : ℕ) (bs : List Buffer) (b : Buffer) → IsWindow size bs → i < length bs → ((d : Buffer) → b ≡ get_or bs i d) → IsIn b.start b.size q
-    → (k : ℕ) (d : Buffer) → k < length bs → (k ≡ i → ⊥) → IsOutOf q (get_or bs k d)
-others_out size i q bs b is lt at own k d within other =
-    elim (cases_lt k i) [
-      | inl before ↦
-          let r : IsApart b.start b.size (get_or bs k d) = rw (at d) (is.apart k i d before lt) in
-          elim r [ inl x ↦ inl (omega (arith, x, own.1)) | inr y ↦ inr (omega (arith, y, own.0)) ]
-      | inr ge ↦
-          let after : i < k = elim (cases_lt i k) [ inl x ↦ x | inr y ↦ absurd (other (omega arith)) ] in
-          let r : IsApart (get_or bs k d).start (get_or bs k d).size b = rw (at d) (is.apart i k d after within) in
-          elim r [ inl x ↦ inr (omega (arith, x, own.0)) | inr y ↦ inl (omega (arith, y, own.1)) ]
-    ]
+others_out : (size i q : ℕ) (bs : List Buffer) (b : Buffer) → IsWindow size bs → i < length bs → ((d : Buffer) → b ≡ get_or bs i d) → IsIn b.start b.size q → All (IsOutOf q) (remove bs i)
+others_out size i q bs b is lt at own =
+    All-weaker (λ x. IsApart x.start x.size b) (IsOutOf q) (λ x apart. elim apart [ inl far ↦ inr (omega (arith, far, own.1)) | inr far ↦ inl (omega (arith, far, own.0)) ]) (remove bs i)
+    (others (λ x y. IsApart y.start y.size x) (λ x y apart. elim apart [ inl far ↦ inr far | inr far ↦ inl far ]) bs i b lt at is.apart)
 
-out_left : (i q : ℕ) (bs : List Buffer) → i < length bs → ((k : ℕ) (d : Buffer) → k < length bs → (k ≡ i → ⊥) → IsOutOf q (get_or bs k d)) → All (IsOutOf q) (remove bs i)
-out_left i q bs lt f k d within =
-    elim (cases_lt k i) [
-      | inl before ↦ rw (get_or-remove_below bs i d k before lt) (f k d (omega arith) (λ e. omega (arith, e)))
-      | inr ge ↦ rw (get_or-remove_above bs i d k ge lt) (f (k + 1) d (omega (arith, length-remove bs i lt)) (λ e. omega (arith, e)))
-    ]
-
-out_with : (i q : ℕ) (bs : List Buffer) (b : Buffer) → i < length bs → ((d : Buffer) → b ≡ get_or bs i d) → All (IsOutOf q) (remove bs i) → IsOutOf q b → All (IsOutOf q) bs
-out_with i q bs b lt at f own k d within =
-    elim (cases_lt k i) [
-      | inl before ↦ rw (get_or-remove_below bs i d k before lt) at (f k d (omega (arith, length-remove bs i lt)))
-      | inr ge ↦ elim (cases_lt i k) [
-        | inl after ↦
-            let back : k - 1 + 1 ≡ k = omega arith in
-            let moved = get_or-remove_above bs i d (k - 1) (omega arith) lt in
-            rw (moved, back) at (f (k - 1) d (omega (arith, length-remove bs i lt)))
-        | inr le ↦ let same : k ≡ i = omega arith in rw (same, ← at d) own
-      ]
-    ]
+-- all pass where the one at an index does, and all others
+all_removed : {A : Type 0} (p : A → Bool) (xs : List A) (i : ℕ) (d : A) → i < length xs → list_all p xs ≡ (p (get_or xs i d) && list_all p (remove xs i))
+all_removed p [] i d lt = absurd (omega arith)
+all_removed p (x ∷ xs) zero d lt = refl
+all_removed p (x ∷ xs) (suc i) d lt = ap (λ t. p x && t) (all_removed p xs i d (omega arith)) ∙ swapped (p x) (p (get_or xs i d)) (list_all p (remove xs i))
+  where
+    swapped : (a b c : Bool) → (a && (b && c)) ≡ (b && (a && c))
+    swapped true b c = refl
+    swapped false b c = sym (and-false b)
 
 free_less : (size u : ℕ) (b : Buffer) (bs new : List Buffer) → IsWindow size bs → IsWithout b bs new → with_span (b.start / 8) (b.size / 8) (is_free_unit bs) u ≡ is_free_unit new u
 free_less size u b bs new window gone =
@@ -208,15 +197,15 @@ free_less size u b bs new window gone =
     let lt = gone.within in
     let P : List Buffer → Type 0 = λ xs. with_span (b.start / 8) (b.size / 8) (is_free_unit bs) u ≡ is_free_unit xs u in
     let placed : IsPlaced size b = rw (gone.at b) (window.placed i b lt) in
+    let test : Buffer → Bool = λ x. not (is_in x.start x.size (8 * u)) in
+    let both = all_removed test bs i b lt ∙ ap (λ x. test x && is_free_byte (remove bs i) (8 * u)) (sym (gone.at b)) in
     subst P (sym gone.left) (ap (λ x. is_free_unit bs u || x) (unit_in size u b placed) ∙ elim (in_or_out b.start b.size (8 * u)) [
       | inl own ↦ (
-          let all = out_free (remove bs i) (8 * u) (out_left i (8 * u) bs lt (others_out size i (8 * u) bs b window lt gone.at own)) in
+          let all = out_free (remove bs i) (8 * u) (others_out size i (8 * u) bs b window lt gone.at own) in
           ap (λ x. is_free_unit bs u || x) (is_in_true b.start b.size (8 * u) own) ∙ or-true (is_free_unit bs u) ∙ sym all)
       | inr out ↦
           ap (λ x. is_free_unit bs u || x) (is_in_false b.start b.size (8 * u) out) ∙ or-false (is_free_unit bs u)
-          ∙ both_ways (is_free_byte bs (8 * u)) (is_free_byte (remove bs i) (8 * u))
-          (λ t. out_free (remove bs i) (8 * u) (All_remove (IsOutOf (8 * u)) bs i lt (free_out bs (8 * u) t)))
-          (λ t. out_free bs (8 * u) (out_with i (8 * u) bs b lt gone.at (free_out (remove bs i) (8 * u) t) out))
+          ∙ both ∙ ap (λ x. not x && is_free_byte (remove bs i) (8 * u)) (is_in_false b.start b.size (8 * u) out)
     ])
 
 pub tiles_less : (size : ℕ) (b : Buffer) (bs new : List Buffer) (t : Spans) → IsWindow size bs → IsWithout b bs new → Tiles (with_span (b.start / 8) (b.size / 8) (is_free_unit bs)) t → Tiles (is_free_unit new) t

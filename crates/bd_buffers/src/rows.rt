@@ -1,34 +1,34 @@
 //! Buffers in rows, in the order in which they were made.
 
-ghost use Rattle.std.specs.Prelude.{ℕ, ◌≡◌, ◌↔◌, ◌+◌, ◌<◌, ◌≤◌, ◌==◌, ◌++◌, ◌∷◌, [], false, IsTrue, IfSome, All, AllPairs, MatchOption, OnOk, OnErr, length, take, slice_index_or, option_map, option_copied, vec_len, vec_capacity};
+ghost use Rattle.std.specs.Prelude.{ℕ, ◌≡◌, ◌↔◌, ◌+◌, ◌<◌, ◌≤◌, ◌==◌, ◌++◌, ◌∷◌, [], false, IsTrue, IfSome, All, AllPairs, MatchOption, OnOk, OnErr, length, set, take, slice_index_or, option_copied, vec_len, vec_capacity};
 ghost use Rattle.std.specs.{Option.{option_and_then}, List.Sorted.{IsPartitionPoint}};
 ghost use Rattle.bd_space.specs.Words.{changed};
 ghost use Rattle.bd_buffers.specs.Record.{is_record_at, record_in, hand_over};
-ghost use Rattle.bd_buffers.specs.Rows.{live, in_row, ends_empty, refilled, emptied, AreRows, IsTrimmed, IsWithout};
+ghost use Rattle.bd_buffers.specs.Rows.{lives, live, in_row, ended, ends_empty, AreRows, IsTrimmed, IsWithout};
 
 use crate::record::Record;
 use std::alloc::{AllocError, Global};
 use std::marker::Model;
 
-// Where a buffer was made, and the buffer while it lives.
-#[derive(Drop)]
-pub(crate) struct Row {
-    pub(crate) made: u64,
-    pub(crate) buffer: Option<Record>,
+// Whether a row's buffer lives: each that does takes some bytes.
+fn is_live(row: &Record) -> bool
+    ensures { result ≡ lives row.now }
+{
+    row.size != 0
 }
 
 // The index of the row made there, found by halves.
-fn index_by_halves(rows: &[Row], made: u64) -> Option<usize>
+fn index_by_halves(rows: &[Record], made: u64) -> Option<usize>
     requires order { AllPairs (λ a b. a.made < b.made) rows.now }
     ensures { MatchOption result
         (All (λ r. (r.made == made) ≡ false) rows.now)
-        (λ i. (i < length rows.now) × ((d : Row) → (slice_index_or rows.now i d).made ≡ made)) }
+        (λ i. (i < length rows.now) × ((d : Record) → (slice_index_or rows.now i d).made ≡ made)) }
 {
     rows.binary_search_by_key(&made, |r| r.made).ok()
 }
 
 // The index of the first row that was made at a place or behind it.
-fn first_row(rows: &[Row], from: u64) -> usize
+fn first_row(rows: &[Record], from: u64) -> usize
     requires order { AllPairs (λ a b. a.made < b.made) rows.now }
     ensures { IsPartitionPoint (λ r. r.made < from) (λ r. from ≤ r.made) rows.now result }
 {
@@ -36,11 +36,11 @@ fn first_row(rows: &[Row], from: u64) -> usize
 }
 
 // The index of the row made there. The last is looked at first: it is what a step mostly speaks of.
-fn index_among(rows: &[Row], made: u64) -> Option<usize>
+fn index_among(rows: &[Record], made: u64) -> Option<usize>
     requires order { AllPairs (λ a b. a.made < b.made) rows.now }
     ensures { MatchOption result
         (All (λ r. (r.made == made) ≡ false) rows.now)
-        (λ i. (i < length rows.now) × ((d : Row) → (slice_index_or rows.now i d).made ≡ made)) }
+        (λ i. (i < length rows.now) × ((d : Record) → (slice_index_or rows.now i d).made ≡ made)) }
 {
     if !rows.is_empty() && rows[rows.len() - 1].made == made {
         Some(rows.len() - 1)
@@ -50,17 +50,17 @@ fn index_among(rows: &[Row], made: u64) -> Option<usize>
 }
 
 // Whether the last row is empty.
-fn is_end_empty(rows: &[Row]) -> bool
+fn is_end_empty(rows: &[Record]) -> bool
     ensures { result ≡ ends_empty rows.now }
 {
     match rows.last() {
         None => false,
-        Some(r) => r.buffer.is_none(),
+        Some(r) => !is_live(r),
     }
 }
 
 // Drops the empty rows at the end.
-fn trim(rows: &mut Vec<Row>)
+fn trim(rows: &mut Vec<Record>)
     ensures trimmed { IsTrimmed rows.old.items rows.new.items }
     ensures ends { ends_empty rows.new.items ≡ false }
     ensures len { vec_len rows.new ≤ vec_len rows.old }
@@ -72,47 +72,46 @@ fn trim(rows: &mut Vec<Row>)
 }
 
 // Drops all empty rows.
-fn pack(rows: &mut Vec<Row>)
+fn pack(rows: &mut Vec<Record>)
     requires stand { AreRows rows.old.items }
     ensures stand { AreRows rows.new.items }
     ensures live { live rows.new.items ≡ live rows.old.items }
     ensures len { vec_len rows.new ≤ vec_len rows.old }
     ensures capacity { vec_capacity rows.new ≡ vec_capacity rows.old }
 {
-    rows.retain(|r| r.buffer.is_some());
+    rows.retain(|r| r.size != 0);
 }
 
 // Takes the buffer out of a row. The row stays.
-fn take_from(rows: &mut Vec<Row>, i: usize) -> Option<Record>
+fn take_from(rows: &mut Vec<Record>, i: usize) -> Option<Record>
     ensures taken { result ≡ in_row rows.old.items i }
-    ensures left { rows.new.items ≡ emptied i rows.old.items }
+    ensures left { MatchOption result (rows.new.items ≡ rows.old.items) (λ b. rows.new.items ≡ set rows.old.items i (ended b)) }
     ensures len { vec_len rows.new ≡ vec_len rows.old }
     ensures capacity { vec_capacity rows.new ≡ vec_capacity rows.old }
 {
-    if i < rows.len() {
-        rows[i].buffer.take()
-    } else {
-        None
+    if i >= rows.len() || !is_live(&rows[i]) {
+        return None;
     }
+    let record = rows[i];
+    rows[i].size = 0;
+    Some(record)
 }
 
-// Marks the buffer in a row as handed out, if there is one.
-fn hand_out_at(rows: &mut Vec<Row>, i: usize)
+// Marks the buffer of a row as handed out.
+fn hand_out_at(rows: &mut Vec<Record>, i: usize)
     requires { i < length rows.old.items }
-    ensures handed { rows.new.items ≡ refilled (option_map hand_over) i rows.old.items }
+    ensures handed { (d : Record) → rows.new.items ≡ set rows.old.items i (hand_over (slice_index_or rows.old.items i d)) }
     ensures len { vec_len rows.new ≡ vec_len rows.old }
     ensures capacity { vec_capacity rows.new ≡ vec_capacity rows.old }
 {
-    if let Some(buffer) = &mut rows[i].buffer {
-        buffer.handed = true;
-    }
+    rows[i].handed = true;
 }
 
 /// Live buffers, in the order in which they were made. An end moves none of them: it leaves an empty row, which goes
 /// once all rows after it are empty too, or when room is made.
 #[derive(Drop)]
 pub(crate) struct Rows {
-    rows: Vec<Row>,
+    rows: Vec<Record>,
 }
 
 impl Model for Rows {
@@ -172,14 +171,12 @@ impl Rows {
     /// Takes the newest buffer in.
     pub(crate) fn push(&mut self, buffer: Record)
         requires room { 1 ≤ self.old.room }
+        requires filled { 0 < buffer.size }
         requires newest { All (λ b. b.made < buffer.made) (live self.old.rows) }
         ensures live { live self.new.rows ≡ live self.old.rows ++ buffer ∷ [] }
         ensures room { self.old.room ≤ self.new.room + 1 }
     {
-        self.rows.push_reserved(Row {
-            made: buffer.made,
-            buffer: Some(buffer),
-        });
+        self.rows.push_reserved(buffer);
     }
 
     /// The index of the row of the buffer made there.
@@ -203,7 +200,7 @@ impl Rows {
     {
         match self.rows.get(i) {
             None => None,
-            Some(r) => r.buffer.as_ref(),
+            Some(r) => { if is_live(r) { Some(r) } else { None } }
         }
     }
 

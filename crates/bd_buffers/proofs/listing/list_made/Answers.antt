@@ -1,22 +1,18 @@
 use Rattle.std.proofs.Common.{ℕ, ◌≡◌, ◌+◌, ◌∙◌, List, ◌++◌, append_assoc, map, take, ap, sym}
-use Rattle.std.specs.Prelude.{Option, Some, None, Result, Ok, Err, OnErr}
+use Rattle.std.specs.Prelude.{Option, Some, None}
 use Rattle.std.specs.Option.{option_to_list}
 use Rattle.std.proofs.lemmas.List.{map-append, append-nil}
 use Rattle.bd_buffers.specs.declared.record.Record.{Record}
-use Rattle.bd_buffers.specs.declared.rows.Row.{Row}
 use Rattle.bd_buffers.specs.Rows.{live, in_row}
 use Rattle.bd_buffers.specs.Record.{made_of_record}
+use Rattle.bd_buffers.proofs.Changes.{refused}
 use Rattle.bd_buffers.proofs.Homes.{front_more}
 use Rattle.bd_buffers.proofs.Live.{one_there}
 use Rattle.bd_buffers.proofs.listing.list_made.Goals as goal
 use Rattle.bd_buffers.proofs.listing.list_made.Goals.{in-Some+in_ok-push, in_default}
 
-on_err : {T E P : Type 0} (r : Result T E) → P → OnErr r P
-on_err (Ok x) h = tt
-on_err (Err e) h = h
-
 -- with one row more
-listed_more : (rows : List Row) (i : ℕ) (o : Option Record) (before places : List ℕ) → o ≡ in_row rows i → places ≡ before ++ map made_of_record (live (take i rows))
+listed_more : (rows : List Record) (i : ℕ) (o : Option Record) (before places : List ℕ) → o ≡ in_row rows i → places ≡ before ++ map made_of_record (live (take i rows))
     → places ++ map made_of_record (option_to_list o) ≡ before ++ map made_of_record (live (take (i + 1) rows))
 listed_more rows i o before places there so_far =
     ap (λ ms. ms ++ map made_of_record (option_to_list o)) so_far ∙ append_assoc before (map made_of_record (live (take i rows))) (map made_of_record (option_to_list o))
@@ -37,4 +33,4 @@ loop-i-preserved c =
     ]
 
 pub returns-in_err-push-clause-grown : goal.returns-in_err-push-clause-grown
-returns-in_err-push-clause-grown c = on_err c.from_residual.result (one_there c.args.buffers.now.rows c.loop-i.i c.in-Some.b.now (sym c.in-Some.ensures))
+returns-in_err-push-clause-grown c = refused c.from_residual.result _ (one_there c.args.buffers.now.rows c.loop-i.i c.in-Some.b.now (sym c.in-Some.ensures))

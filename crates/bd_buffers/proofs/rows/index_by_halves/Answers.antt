@@ -1,11 +1,11 @@
 use Rattle.std.proofs.Common.{rules}
 use Rattle.std.proofs.lemmas.List.Sorted.{answers_always}
-use Rattle.bd_buffers.specs.declared.rows.Row.{Row}
+use Rattle.bd_buffers.specs.declared.record.Record.{Record}
 use Rattle.bd_buffers.proofs.Made.{halved}
 use Rattle.bd_buffers.proofs.rows.index_by_halves.Goals as goal
 
 pub returns : goal.returns
 returns c =
-    let made = λ (r : Row). r.made in
+    let made = λ (r : Record). r.made in
     let found = c.binary_search_by_key.ensures.position made (answers_always _ _ _ (λ f a r g called. search rules)) in
     rw c.ok.ensures.value (halved made c.args.made c.args.rows.now _ c.requires.order found c.binary_search_by_key.ensures.bound)

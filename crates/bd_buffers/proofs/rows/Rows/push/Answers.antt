@@ -1,18 +1,21 @@
-use Rattle.std.proofs.Common.{◌∙◌, ◌<◌, ◌++◌, ◌∷◌, [], ap, sym, subst, List, All}
+use Rattle.std.proofs.Common.{◌≡◌, ◌∙◌, ◌<◌, ◌++◌, ◌∷◌, [], ap, sym, subst, true, not, ne_eqb, List, All, arith}
 use Rattle.bd_buffers.specs.declared.record.Record.{Record}
 use Rattle.bd_buffers.specs.declared.rows.Rows.{Rows}
-use Rattle.bd_buffers.specs.Rows.{live, AreRows}
+use Rattle.bd_buffers.specs.Rows.{lives, live, AreRows}
 use Rattle.bd_buffers.proofs.Live.{pushed_live, pushed_rows}
 use Rattle.bd_buffers.proofs.rows.Rows.push.Goals as goal
+
+filled : (r : Record) → 0 < r.size → lives r ≡ true
+filled r lt = ap not (ne_eqb r.size 0 (λ e. absurd (omega (arith, lt, e))))
 
 pub invariant_of-self : goal.invariant_of-self
 invariant_of-self c =
     let rows = c.self.inside.rows.items in
     let Q : List Record → Type 0 = λ xs. All (λ b. b.made < c.args.buffer.made) xs in
-    subst AreRows (sym c.push_reserved.ensures.items) (pushed_rows rows c.args.buffer c.self.invariant
+    subst AreRows (sym c.push_reserved.ensures.items) (pushed_rows rows c.args.buffer c.self.invariant (filled c.args.buffer c.requires.filled)
     (subst Q (ap (λ (v : Rows). live v.rows) (sym c.self.view_is)) c.requires.newest))
 
 pub returns-clause-live : goal.returns-clause-live
 returns-clause-live c =
-    ap live c.push_reserved.ensures.items ∙ pushed_live c.self.inside.rows.items c.args.buffer.made c.args.buffer
+    ap live c.push_reserved.ensures.items ∙ pushed_live c.self.inside.rows.items c.args.buffer (filled c.args.buffer c.requires.filled)
     ∙ ap (λ (v : Rows). live v.rows ++ c.args.buffer ∷ []) c.self.view_is

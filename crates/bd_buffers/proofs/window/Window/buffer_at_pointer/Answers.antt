@@ -12,7 +12,7 @@ use Rattle.bd_buffers.specs.Record.{all_standing}
 use Rattle.bd_buffers.specs.Rows.{live}
 use Rattle.bd_buffers.specs.Stands.{Stands, WindowTells}
 use Rattle.bd_buffers.proofs.Listed.{by_start}
-use Rattle.bd_buffers.proofs.Made.{kept}
+use Rattle.bd_buffers.specs.Rows.{kept}
 use Rattle.bd_buffers.proofs.window.Window.buffer_at_pointer.Goals as goal
 
 -- what the buffer made where it is noted tells of the one with the pointer

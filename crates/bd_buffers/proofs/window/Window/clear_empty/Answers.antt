@@ -1,13 +1,12 @@
 use Rattle.std.proofs.Common.{◌≡◌, List, [], ◌∷◌, length, refl, ap, sym, subst, ◌∙◌, arith}
 use Rattle.bd_buffers.specs.declared.record.Record.{Record}
-use Rattle.bd_buffers.specs.declared.rows.Row.{Row}
 use Rattle.bd_buffers.specs.declared.window.Window.{Window}
 use Rattle.bd_buffers.specs.Record.{all_standing}
 use Rattle.bd_buffers.specs.Rows.{live}
 use Rattle.bd_buffers.specs.Window.{Keeps}
 use Rattle.bd_buffers.proofs.window.Window.clear_empty.Goals as goal
 
-none_of : (rows : List Row) → length rows ≡ 0 → live rows ≡ []
+none_of : (rows : List Record) → length rows ≡ 0 → live rows ≡ []
 none_of [] is = refl
 none_of (r ∷ rows) is = absurd (omega (arith, is))
 

@@ -1,7 +1,6 @@
-use Rattle.std.proofs.Common.{sym, ◌∙◌, ◌≡◌, ◌⊎◌, ap, subst, arith, Ok, [], ◌∷◌, ◌++◌, ◌+◌, ◌/◌, All, refl, length, ◌<◌, ◌≤◌, ℕ}
+use Rattle.std.proofs.Common.{sym, ◌∙◌, ap, subst, arith, [], ◌∷◌, ◌++◌, ◌+◌, ◌/◌, All, refl, ◌<◌, ◌≤◌, ℕ}
 use Rattle.bd_ground.specs.Tiles.{HasRoom}
 use Rattle.bd_space.specs.declared.space.Buffer.{Buffer}
-use Rattle.bd_space.specs.Windows.{needed, start_for}
 use Rattle.bd_space.specs.Spam.{one_way_from}
 use Rattle.bd_buffers.specs.declared.window.Window.{Window}
 use Rattle.bd_buffers.specs.declared.ground.Ground.{Ground}
@@ -13,7 +12,7 @@ use Rattle.bd_buffers.proofs.Places.{holds_inside}
 use Rattle.bd_buffers.proofs.Shares.{at_sender, from_within}
 use Rattle.bd_buffers.proofs.Standing.{all_of}
 use Rattle.bd_buffers.proofs.Kept.{is_one_way, share_within}
-use Rattle.bd_buffers.proofs.Noted.{AreBeside, begins, with_new, keeps_pushed}
+use Rattle.bd_buffers.proofs.Noted.{is_new, begins, with_new, keeps_pushed}
 use Rattle.bd_buffers.proofs.window.Window.commit.Goals as goal
 
 pub lay-record-requires-clause-inside : goal.lay-record-requires-clause-inside
@@ -96,6 +95,12 @@ push-requires-clause-room c =
     let room = ap (λ (v : Window). v.room) c.self.view_is in
     omega (arith, notes, room)
 
+pub push-requires-clause-filled : goal.push-requires-clause-filled
+push-requires-clause-filled c =
+    let sized = c.requires.sized in
+    let size = ap (λ (x : Buffer). x.size) c.lay-record.ensures.standing in
+    omega (arith, sized, size)
+
 pub push-requires-clause-newest : goal.push-requires-clause-newest
 push-requires-clause-newest c =
     let w = c.self.inside in
@@ -119,13 +124,7 @@ invariant_of-self c =
     let e = c.lay-record.ensures.standing in
     let size = ap (λ (x : Buffer). x.size) e in
     let start = ap (λ (x : Buffer). x.start) e in
-    let place : start_for g.size bs b.one_way b.size ≡ Ok b.start = rw (← c.self.view_is) at c.requires.can_take in
-    let placed : start_for g.size bs r.one_way r.size ≡ Ok r.start = subst (λ (x : Buffer). start_for g.size bs x.one_way x.size ≡ Ok x.start) (sym e) place in
-    let sized : r.size ≡ needed (length (standing new r).bytes) (length (standing new r).offsets) = subst (λ (x : Buffer). x.size ≡ needed (length x.bytes) (length x.offsets)) (sym e) c.requires.sized in
-    let P : ℕ → Type 0 = λ n. All (λ x. x.made < n) bs in
-    let newest : P b.made = rw (← c.self.view_is) at c.requires.newest in
-    let last = all_of (standing m) (λ x. x.made < r.made) rs (subst P (sym (ap (λ (x : Buffer). x.made) e)) newest) in
-    let others : AreBeside m new r = λ x is side. c.lay-record.ensures.others x is (subst (λ (y : Buffer). (x.start + x.size ≤ y.start) ⊎ (y.start + y.size ≤ x.start)) e side) in
+    let comes = is_new b r rs g new e (rw (← c.self.view_is) at c.requires.newest) c.requires.sized (rw (← c.self.view_is) at c.requires.can_take) c.lay-record.ensures.others in
     let left : Ground = record {
       size = g.size;
       one_way = g.one_way + c.one_way_share.result;
@@ -138,8 +137,8 @@ invariant_of-self c =
     let reach = ap (λ (v : Window). v.reach) c.self.view_is in
     let room : HasRoom g.spans (r.start / 8 + r.size / 8) = record { holes = omega (arith, bytes, reach, start, size); begins = omega (arith, bytes, reach, start, size) } in
     subst (λ xs. Keeps xs left) (sym c.push.ensures.live)
-    (keeps_pushed r rs g left c.self.invariant last sized placed others c.lay-record.ensures.inside c.lay-record.ensures.len refl c.take.ensures.size
-    (c.take.ensures.tiles (is_free_unit bs) c.self.invariant.notes.tiles (begins r rs g left c.self.invariant last sized placed others) room)
+    (keeps_pushed r rs g left c.self.invariant comes c.lay-record.ensures.inside c.lay-record.ensures.len refl c.take.ensures.size
+    (c.take.ensures.tiles (is_free_unit bs) c.self.invariant.notes.tiles (begins r rs g left c.self.invariant comes) room)
     c.note.ensures.at c.note.ensures.others
     (ap (λ n. g.one_way + n) c.one_way_share.ensures) (c.raise.ensures.sums (one_way_from bs) c.self.invariant.notes.sums))
 
@@ -155,15 +154,9 @@ returns-clause-stands c = λ n xs is.
     let b = c.args.buffer in
     let new = c.lay-record.new.memory in
     let e = c.lay-record.ensures.standing in
-    let place : start_for g.size bs b.one_way b.size ≡ Ok b.start = rw (← c.self.view_is) at c.requires.can_take in
-    let placed : start_for g.size bs r.one_way r.size ≡ Ok r.start = subst (λ (x : Buffer). start_for g.size bs x.one_way x.size ≡ Ok x.start) (sym e) place in
-    let sized : r.size ≡ needed (length (standing new r).bytes) (length (standing new r).offsets) = subst (λ (x : Buffer). x.size ≡ needed (length x.bytes) (length x.offsets)) (sym e) c.requires.sized in
-    let P : ℕ → Type 0 = λ n. All (λ x. x.made < n) bs in
-    let newest : P b.made = rw (← c.self.view_is) at c.requires.newest in
-    let last = all_of (standing m) (λ x. x.made < r.made) rs (subst P (sym (ap (λ (x : Buffer). x.made) e)) newest) in
-    let others : AreBeside m new r = λ x is side. c.lay-record.ensures.others x is (subst (λ (y : Buffer). (x.start + x.size ≤ y.start) ⊎ (y.start + y.size ≤ x.start)) e side) in
+    let comes = is_new b r rs g new e (rw (← c.self.view_is) at c.requires.newest) c.requires.sized (rw (← c.self.view_is) at c.requires.can_take) c.lay-record.ensures.others in
     record {
       size_is = ap (λ (v : Window). v.size) c.self.view_is ∙ is.size_is;
-      buffers_are = ap (all_standing new) c.push.ensures.live ∙ with_new r rs g (record g { memory = new }) c.self.invariant last sized placed others ∙ ap (λ (x : Buffer). bs ++ x ∷ []) e
+      buffers_are = ap (all_standing new) c.push.ensures.live ∙ with_new r rs g (record g { memory = new }) c.self.invariant comes ∙ ap (λ (x : Buffer). bs ++ x ∷ []) e
           ∙ ap (λ (v : Window). v.buffers ++ b ∷ []) c.self.view_is ∙ ap (λ xs. xs ++ b ∷ []) is.buffers_are;
     }

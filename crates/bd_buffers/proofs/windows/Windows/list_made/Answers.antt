@@ -1,16 +1,8 @@
 use Rattle.std.proofs.Common.{ℕ, ◌≤◌, ◌∙◌, ap, sym, subst, ◌+◌, ◌++◌, append-nil, length, map}
-use Rattle.std.specs.Prelude.{Result, Ok, Err, OnOk, OnErr}
 use Rattle.bd_buffers.specs.WindowsStand.{buffers_held, made_of_buffer}
+use Rattle.bd_buffers.proofs.Changes.{on_ok, on_err}
 use Rattle.bd_buffers.proofs.AllWindows.{held}
 use Rattle.bd_buffers.proofs.windows.Windows.list_made.Goals as goal
-
-if_ok : {A E : Type 0} (r : Result A E) (P Q : Type 0) → (P → Q) → OnOk r P → OnOk r Q
-if_ok (Ok x) P Q f h = f h
-if_ok (Err e) P Q f h = tt
-
-if_err : {A E : Type 0} (r : Result A E) (P Q : Type 0) → (P → Q) → OnErr r P → OnErr r Q
-if_err (Ok x) P Q f h = tt
-if_err (Err e) P Q f h = f h
 
 pub returns-in-None-clause-listed : goal.returns-in-None-clause-listed
 returns-in-None-clause-listed c = λ s stands.
@@ -20,10 +12,10 @@ returns-in-None-clause-listed c = λ s stands.
 pub returns-in-Some-clause-listed : goal.returns-in-Some-clause-listed
 returns-in-Some-clause-listed c =
     let places = c.args.places.now.items in
-    if_ok c.list_made.result _ _ (λ listed s stands.
-    listed ∙ ap (λ bs. places ++ map made_of_buffer bs) (ap buffers_held c.in-Some.ensures.found ∙ held c.args.self.now (s.steps + 1) c.args.p s.processes s.buffers stands)) c.list_made.ensures.listed
+    on_ok _ _ (λ listed s stands.
+    listed ∙ ap (λ bs. places ++ map made_of_buffer bs) (ap buffers_held c.in-Some.ensures.found ∙ held c.args.self.now (s.steps + 1) c.args.p s.processes s.buffers stands)) c.list_made.result c.list_made.ensures.listed
 
 pub returns-in-Some-clause-grown : goal.returns-in-Some-clause-grown
 returns-in-Some-clause-grown c =
-    if_err c.list_made.result _ _ (λ some s stands.
-    subst (λ (n : ℕ). 1 ≤ n) (ap length (ap buffers_held c.in-Some.ensures.found ∙ held c.args.self.now (s.steps + 1) c.args.p s.processes s.buffers stands)) some) c.list_made.ensures.grown
+    on_err _ _ (λ some s stands.
+    subst (λ (n : ℕ). 1 ≤ n) (ap length (ap buffers_held c.in-Some.ensures.found ∙ held c.args.self.now (s.steps + 1) c.args.p s.processes s.buffers stands)) some) c.list_made.result c.list_made.ensures.grown

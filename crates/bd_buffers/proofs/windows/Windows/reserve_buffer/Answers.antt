@@ -1,25 +1,13 @@
-use Rattle.std.proofs.Common.{◌≡◌, List, find, refl, sym, ap, ◌∙◌, subst, set, map, Ok, Err, Some, arith}
-use Rattle.std.specs.Prelude.{OnOk, OnErr, Result}
+use Rattle.std.proofs.Common.{◌≡◌, List, find, refl, sym, ap, ◌∙◌, subst, set, map, Some, arith}
 use Rattle.bd_keys.specs.Look.{look, word_room}
 use Rattle.bd_keys.proofs.Rising.{find_none}
 use Rattle.bd_buffers.proofs.Homes.{homes_same}
 use Rattle.bd_buffers.specs.declared.owned.OwnedWindow.{OwnedWindow}
 use Rattle.bd_buffers.specs.declared.windows.Windows.{Windows}
 use Rattle.bd_buffers.specs.WindowsStand.{ProcessWindow, is_owned_by, is_of, RoomIn, HasBufferRoom, CanAdd, CanHoldIn, seen}
+use Rattle.bd_buffers.proofs.Changes.{on_ok, on_err, refused}
 use Rattle.bd_buffers.proofs.AllWindows.{is_at, left_at, stay, stay_seen}
 use Rattle.bd_buffers.proofs.windows.Windows.reserve_buffer.Goals as goal
-
-on_ok : {A B : Type 0} (r : Result A B) (P Q R : Type 0) → (P → Q → R) → P → OnOk r Q → OnOk r R
-on_ok (Ok x) P Q R f p q = f p q
-on_ok (Err x) P Q R f p q = tt
-
-on_err : {A B : Type 0} (r : Result A B) (P Q : Type 0) → (P → Q) → OnErr r P → OnErr r Q
-on_err (Ok x) P Q f p = tt
-on_err (Err x) P Q f p = f p
-
-refused : {A B : Type 0} (r : Result A B) (P : Type 0) → P → OnErr r P
-refused (Ok x) P p = tt
-refused (Err x) P p = p
 
 pub returns-in-None-clause-room : goal.returns-in-None-clause-room
 unfolding HasBufferRoom
@@ -48,13 +36,13 @@ returns-in-Some-clause-room c =
     let is = is_at _ t p c.in-Some.at w c.self.view_is c.self.invariant (rw c.deref.ensures.value at c.in-Some.ensures) c.index_mut.ensures.value in
     let x : OwnedWindow = record { owner = w.owner; window = c.reserve-in-Some.new.self } in
     let there : find (is_owned_by p) (set c.self.inside.windows.items c.in-Some.at x) ≡ Some x = ap (λ (v : Windows). find (is_owned_by p) (set v.windows c.in-Some.at x)) c.self.view_is ∙ left_at t p c.in-Some.at w x is refl in
-    on_ok c.reserve-in-Some.result _ _ _ (λ notes room. (subst (λ o. RoomIn o c.args.start c.args.size) (sym there) room, notes)) c.in_ok-reserve.ensures.room c.reserve-in-Some.ensures.room
+    on_ok _ _ (λ room. (subst (λ o. RoomIn o c.args.start c.args.size) (sym there) room, c.in_ok-reserve.ensures.room)) c.reserve-in-Some.result c.reserve-in-Some.ensures.room
 
 pub returns-in-Some-clause-grown : goal.returns-in-Some-clause-grown
 unfolding HasBufferRoom
 returns-in-Some-clause-grown c =
     let is = is_at _ c.args.self.now c.args.p c.in-Some.at c.index_mut.result.now c.self.view_is c.self.invariant (rw c.deref.ensures.value at c.in-Some.ensures) c.index_mut.ensures.value in
-    on_err c.reserve-in-Some.result _ _ (λ none has. none (subst (λ o. RoomIn o c.args.start c.args.size) is.found has.0)) c.reserve-in-Some.ensures.grown
+    on_err _ _ (λ none has. none (subst (λ o. RoomIn o c.args.start c.args.size) is.found has.0)) c.reserve-in-Some.result c.reserve-in-Some.ensures.grown
 
 pub returns-in_err-reserve-clause-can_add : goal.returns-in_err-reserve-clause-can_add
 unfolding CanAdd
