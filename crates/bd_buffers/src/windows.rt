@@ -180,6 +180,8 @@ impl Windows {
     }
 
     /// The live buffer made there.
+    // Put into its callers, as what looks by a pointer: what is lent isn't moved from frame to frame.
+    #[inline(always)]
     pub fn buffer(&self, made: u64) -> Option<Lent<'_>>
         ensures found { Tells (StandsIn self.now) result (λ s. buffer_in s.buffers made) }
         ensures placed { IfSome result (λ b. IsInWindow b) }
@@ -204,6 +206,7 @@ impl Windows {
     }
 
     /// The live buffer that a process knows by a pointer, handed out or not.
+    #[inline(always)]
     pub fn at_pointer(&self, p: u64, pointer: u64) -> Option<Lent<'_>>
         ensures found { (s : Space) (q : Process) → StandsIn self.now s → process_in s.processes p ≡ Some q
             → result ≡ buffer_at_pointer s p pointer }
