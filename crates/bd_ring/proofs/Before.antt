@@ -1,9 +1,9 @@
 -- Who stands before whom: only by standing before it can one have a turn first, and then it stands behind.
 use Rattle.std.proofs.Common.{◌≡◌, ◌==◌, ◌+◌, ◌≤◌, ℕ, Bool, true, false, List, [], ◌∷◌, ◌++◌, cond, refl, sym, ap, subst, ◌∙◌, arith, if◌then◌else◌}
 use Rattle.std.proofs.{lemmas.Bool.Decides.{nat_tests}, lemmas.Bool.{eqb-true}, lemmas.Grind.{common_steps}}
-use Rattle.bd_ring.specs.Turns.{wants, is_ring, Event, after, after_enter, after_leave, is_turn, is_pass, turns, passes, Stays, NobodyHasTwo}
+use Rattle.bd_ring.specs.Turns.{wants, is_ring, Event, after, after_enter, after_leave, is_turn, is_pass, turns, passes, Stays, AlwaysWants, NobodyHasTwo, NobodyHasMore}
 use Rattle.bd_ring.specs.Turns.Event.{Enters, Leaves, Turn, Pass}
-use Rattle.bd_ring.proofs.Rings.{wants_more, first_apart, rest_of, ring_more, wants_left, ring_fewer, ring_passed}
+use Rattle.bd_ring.proofs.Staying.{wants_more, first_apart, rest_of, ring_more, wants_left, ring_fewer, ring_turned, ring_passed}
 
 abbrev before : ℕ → ℕ → List ℕ → Bool
 before other one [] = false
@@ -139,3 +139,91 @@ nobody_has_two ring es one other r w stays apart none =
     let most = at_most ring es one other r w stays none in
     let one_at_most = one_most (before other one ring) in
     omega (arith, most, one_at_most)
+
+-- ---- over any time: who had a turn may have others before it again, but one each
+
+abbrev share : ℕ → ℕ → List ℕ → ℕ
+share other one ring = if wants ring one then ahead other one ring else 1
+
+share_most : (other one : ℕ) (ring : List ℕ) → share other one ring ≤ 1
+share_most other one ring = by (wants ring one)
+  where
+    by : (b : Bool) → (if b then ahead other one ring else 1) ≤ 1
+    by true = one_most (before other one ring)
+    by false = omega arith
+
+share_is : (other one : ℕ) (ring : List ℕ) → wants ring one ≡ true → share other one ring ≡ ahead other one ring
+share_is other one ring w = rw w refl
+
+share_out : (other one : ℕ) (ring : List ℕ) → wants ring one ≡ false → share other one ring ≡ 1
+share_out other one ring w = rw w refl
+
+ring_after : (ring : List ℕ) (e : Event) → is_ring ring ≡ true → is_ring (after ring e) ≡ true
+ring_after ring (Enters z) r = by (wants ring z) refl
+  where
+    by : (b : Bool) → wants ring z ≡ b → is_ring (cond b ring (ring ++ z ∷ [])) ≡ true
+    by true e = r
+    by false e = ring_more ring z r e
+ring_after ring (Leaves z) r = ring_fewer ring z r
+ring_after ring Turn r = ring_turned ring r
+ring_after ring Pass r = ring_passed ring r
+
+-- whoever still wants a turn
+keeps : (ring new : List ℕ) (one other turned passed : ℕ) → wants ring one ≡ true → Goes ring new one other turned passed → turned + share other one new ≤ share other one ring + passed
+keeps ring new one other turned passed w g =
+    let less = g.less in
+    let was = share_is other one ring w in
+    let is = share_is other one new g.wanted in
+    omega (arith, less, was, is)
+
+gives : (ring : List ℕ) (e : Event) (es : List Event) (one other : ℕ) → is_ring ring ≡ true → AlwaysWants one ring (e ∷ es) → (other ≡ one → ⊥)
+    → as_number (is_turn ring e other) + share other one (after ring e) ≤ share other one ring + as_number (is_turn ring e one) + as_number (is_pass ring e one)
+gives ring (Enters z) es one other r always apart = by (wants ring one) refl
+  where
+    by : (b : Bool) → wants ring one ≡ b → 0 + share other one (after_enter ring z) ≤ share other one ring + 0 + 0
+    by true w = let less = keeps ring (after_enter ring z) one other 0 0 w (entered ring z one other r w) in omega (arith, less)
+    by false w = let most = share_most other one (after_enter ring z) in let was = share_out other one ring w in omega (arith, most, was)
+gives ring (Leaves z) es one other r always apart = by (wants ring one) refl
+  where
+    by : (b : Bool) → wants ring one ≡ b → 0 + share other one (after_leave ring z) ≤ share other one ring + 0 + 0
+    by true w = let less = keeps ring (after_leave ring z) one other 0 0 w (left ring z one other r w (λ e. always.0 (sym e))) in omega (arith, less)
+    by false w = let most = share_most other one (after_leave ring z) in let was = share_out other one ring w in omega (arith, most, was)
+gives [] Turn es one other r always apart = absurd (let w = always.0 in cc)
+gives (x ∷ xs) Turn es one other r always apart = by (x == one) refl (x == other) refl
+  where
+    by : (b : Bool) → (x == one) ≡ b → (c : Bool) → (x == other) ≡ c
+        → as_number (x == other) + share other one xs ≤ share other one (x ∷ xs) + as_number (x == one) + 0
+    by false none c d =
+        let less = keeps (x ∷ xs) xs one other (as_number (x == other)) 0 always.0 (turned x xs one other r always.0 none) in
+        let no : as_number (x == one) ≡ 0 = ap {B = ℕ} as_number none in
+        omega (arith, less, no)
+    by true e true d = absurd (apart (sym (eqb-true x other d) ∙ eqb-true x one e))
+    by true e false d =
+        let most = share_most other one xs in
+        let yes : as_number (x == one) ≡ 1 = ap {B = ℕ} as_number e in
+        let no : as_number (x == other) ≡ 0 = ap {B = ℕ} as_number d in
+        omega (arith, most, yes, no)
+gives [] Pass es one other r always apart = absurd (let w = always.0 in cc)
+gives (x ∷ xs) Pass es one other r always apart =
+    let less = keeps (x ∷ xs) (xs ++ x ∷ []) one other 0 (as_number (x == one)) always.0 (passed x xs one other r always.0) in
+    omega (arith, less)
+
+rest_wants : (one : ℕ) (ring : List ℕ) (e : Event) (es : List Event) → AlwaysWants one ring (e ∷ es) → AlwaysWants one (after ring e) es
+rest_wants one ring (Enters y) es always = always
+rest_wants one ring (Leaves y) es always = always.1
+rest_wants one ring Turn es always = always.1
+rest_wants one ring Pass es always = always.1
+
+no_more : (ring : List ℕ) (es : List Event) (one other : ℕ) → is_ring ring ≡ true → AlwaysWants one ring es → (other ≡ one → ⊥)
+    → turns ring es other ≤ share other one ring + turns ring es one + passes ring es one
+no_more ring [] one other r always apart = omega arith
+no_more ring (e ∷ es) one other r always apart =
+    let now = gives ring e es one other r always apart in
+    let later = no_more (after ring e) es one other (ring_after ring e r) (rest_wants one ring e es always) apart in
+    omega (arith, now, later)
+
+pub nobody_has_more : NobodyHasMore
+nobody_has_more ring es one other r always apart =
+    let more = no_more ring es one other r always apart in
+    let most = share_most other one ring in
+    omega (arith, more, most)

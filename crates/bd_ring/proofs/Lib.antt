@@ -1,2 +1,5 @@
-pub mod Rings
+pub mod Staying
 pub mod Before
+pub mod Setting
+pub mod Standing
+pub mod Many

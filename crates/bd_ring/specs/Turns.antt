@@ -82,3 +82,16 @@ Stays one (Pass ∷ es) = Stays one es
 abbrev pub NobodyHasTwo : Type 0
 NobodyHasTwo = (ring : List ℕ) (es : List Event) (one other : ℕ) → IsRing ring → wants ring one ≡ true → Stays one es
     → (other ≡ one → ⊥) → turns ring es one ≡ 0 → turns ring es other ≤ 1 + passes ring es one
+
+-- the one wants a turn whenever anybody has one or is passed over, as who comes again before the next turn does
+abbrev pub AlwaysWants : ℕ → List ℕ → List Event → Type 0
+AlwaysWants one ring [] = Unit {0}
+AlwaysWants one ring (Enters y ∷ es) = AlwaysWants one (after_enter ring y) es
+AlwaysWants one ring (Leaves y ∷ es) = (y ≡ one → ⊥) × AlwaysWants one (after_leave ring y) es
+AlwaysWants one ring (Turn ∷ es) = (wants ring one ≡ true) × AlwaysWants one (after_turn ring) es
+AlwaysWants one ring (Pass ∷ es) = (wants ring one ≡ true) × AlwaysWants one (after_pass ring) es
+
+-- over any time
+abbrev pub NobodyHasMore : Type 0
+NobodyHasMore = (ring : List ℕ) (es : List Event) (one other : ℕ) → IsRing ring → AlwaysWants one ring es
+    → (other ≡ one → ⊥) → turns ring es other ≤ 1 + turns ring es one + passes ring es one

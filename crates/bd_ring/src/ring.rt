@@ -38,7 +38,7 @@ impl Ring {
         self.queue.iter().any(|x| *x == one)
     }
 
-    #[tactic(auto, using(crate::proofs::Rings::ring_more))]
+    #[tactic(auto, using(crate::proofs::Staying::ring_more))]
     /// One wants a turn, behind all others. Errors: memory was refused, and nobody comes.
     pub fn attach(&mut self, one: u32) -> Result<(), AllocError>
         ensures enters { self.new.queue.items ≡ (if is_ok result then after_enter self.old.queue.items one else self.old.queue.items) }
@@ -52,7 +52,7 @@ impl Ring {
         Ok(())
     }
 
-    #[tactic(auto, using(crate::proofs::Rings::ring_fewer))]
+    #[tactic(auto, using(crate::proofs::Staying::ring_fewer))]
     /// One wants none any more.
     pub fn leave(&mut self, one: u32)
         ensures { self.new.queue.items ≡ after_leave self.old.queue.items one }
@@ -68,7 +68,7 @@ impl Ring {
         self.queue.pop_front()
     }
 
-    #[tactic(auto, using(crate::proofs::Rings::ring_passed))]
+    #[tactic(auto, using(crate::proofs::Staying::ring_passed))]
     /// Whose turn it would be is passed over, and goes behind all others.
     pub fn pass(&mut self)
         ensures { self.new.queue.items ≡ after_pass self.old.queue.items }

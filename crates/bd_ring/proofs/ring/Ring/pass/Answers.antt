@@ -1,6 +1,6 @@
 use Rattle.std.proofs.Common.{◌≡◌, List, [], ℕ, true, ◌∷◌, ◌++◌, sym, subst}
 use Rattle.bd_ring.specs.Turns.{is_ring}
-use Rattle.bd_ring.proofs.Rings.{ring_passed}
+use Rattle.bd_ring.proofs.Staying.{ring_passed}
 use Rattle.bd_ring.proofs.ring.Ring.pass.Goals as goal
 
 pub invariant_of-self : goal.invariant_of-self

@@ -1,0 +1,186 @@
+//! Many rings: a number is of a ring, and of one that may stand in a ring of another number.
+
+ghost use Rattle.std.specs.Prelude.{ℕ, ◌≡◌, ◌==◌, ◌<◌, ◌++◌, ◌∷◌, [], ◌&&◌, true, false, length, Some, None, IfSome, IfNone, is_none, if◌then◌else◌};
+ghost use Rattle.bd_keys.specs.Tables.{Makes, Tells};
+ghost use Rattle.bd_ring.specs.Turns.{after_enter, after_turn, after_pass};
+ghost use Rattle.bd_ring.specs.Rings.{Orders, nobody, with_ring, without_one, next_in, is_used, ring_of, next_at, may_enter, Stands};
+
+use crate::nodes::{Node, look_at, set_next, set_place, set_prev, write};
+use std::alloc::Global;
+
+/// Those that want turns, in many rings, each once at most and in one ring alone.
+#[derive(Drop)]
+pub struct Rings {
+    pub(crate) nodes: Vec<Node>,
+    // A number that nobody has any more, if one was given back; its node names the next such one.
+    pub(crate) free: Option<u32>,
+}
+
+// One comes last in a ring.
+#[inline(always)]
+fn append(nodes: &mut Vec<Node>, ring: u32, one: u32)
+    ensures stands { (f : Orders) → Stands nodes.old.items f → is_used nodes.old.items ring ≡ true → one < length nodes.old.items
+        → ring_of nodes.old.items one ≡ None → Stands nodes.new.items (with_ring f ring (after_enter (f ring) one)) }
+    ensures used { (k : ℕ) → is_used nodes.new.items k ≡ is_used nodes.old.items k }
+    ensures len { length nodes.new.items ≡ length nodes.old.items }
+{
+    let last = look_at(nodes, ring).last;
+    set_place(nodes, one, Some(ring), last, None);
+    set_next(nodes, ring, last, Some(one));
+    set_prev(nodes, ring, None, Some(one));
+}
+
+// One stands in no ring any more.
+#[inline(always)]
+fn detach(nodes: &mut Vec<Node>, one: u32)
+    ensures stands { Makes (Stands nodes.old.items) (Stands nodes.new.items) (λ f. without_one f one) }
+    ensures out { ring_of nodes.new.items one ≡ None }
+    ensures used { (k : ℕ) → is_used nodes.new.items k ≡ is_used nodes.old.items k }
+    ensures len { length nodes.new.items ≡ length nodes.old.items }
+{
+    let node = look_at(nodes, one);
+    let Some(ring) = node.ring else {
+        return;
+    };
+    set_place(nodes, one, None, None, None);
+    set_next(nodes, ring, node.prev, node.next);
+    set_prev(nodes, ring, node.next, node.prev);
+}
+
+impl Rings {
+    /// No rings. Takes no memory.
+    pub fn new(alloc: Global) -> Rings
+        ensures stands { Stands result.nodes.items nobody }
+        ensures none { (k : ℕ) → is_used result.nodes.items k ≡ false }
+    {
+        Rings {
+            nodes: Vec::new(alloc),
+            free: None,
+        }
+    }
+
+    /// A number that nobody has: in its ring nobody stands, and it stands in none. None where there is no memory for it, or no such number.
+    pub fn add(&mut self) -> Option<u32>
+        ensures stands { Makes (Stands self.old.nodes.items) (Stands self.new.nodes.items) (λ f. f) }
+        ensures fresh { IfSome result (λ n. is_used self.old.nodes.items n ≡ false) }
+        ensures alone { IfSome result (λ n. ring_of self.new.nodes.items n ≡ None) }
+        ensures used { IfSome result (λ n. (k : ℕ) → is_used self.new.nodes.items k
+            ≡ (if n == k then true else is_used self.old.nodes.items k)) }
+        ensures none { IfNone result (self.new.nodes.items ≡ self.old.nodes.items) }
+    {
+        if let Some(n) = self.free {
+            let node = look_at(&self.nodes, n);
+            if (n as usize) < self.nodes.len() && !node.used && node.ring.is_none() {
+                self.free = node.next;
+                write(
+                    &mut self.nodes,
+                    n,
+                    Node {
+                        used: true,
+                        first: node.first,
+                        last: node.last,
+                        ring: node.ring,
+                        prev: None,
+                        next: None,
+                    },
+                );
+                return Some(n);
+            }
+        }
+        let n = u32::try_from(self.nodes.len()).ok()?;
+        self.nodes
+            .push(Node {
+                used: true,
+                first: None,
+                last: None,
+                ring: None,
+                prev: None,
+                next: None,
+            })
+            .ok()?;
+        Some(n)
+    }
+
+    /// A number is given back: it leaves its ring, and may be somebody else's from now on. Refused where anybody stands in its own ring.
+    pub fn remove(&mut self, one: u32) -> bool
+        ensures which { result ≡ (is_used self.old.nodes.items one && is_none (next_at self.old.nodes.items one None)) }
+        ensures stands { Makes (Stands self.old.nodes.items) (Stands self.new.nodes.items) (λ f. if result then without_one f one else f) }
+        ensures used { (k : ℕ) → is_used self.new.nodes.items k ≡ (if result && (one == k) then false else is_used self.old.nodes.items k) }
+    {
+        let node = look_at(&self.nodes, one);
+        if !node.used || node.first.is_some() {
+            return false;
+        }
+        detach(&mut self.nodes, one);
+        let node = look_at(&self.nodes, one);
+        write(
+            &mut self.nodes,
+            one,
+            Node {
+                used: false,
+                first: node.first,
+                last: node.last,
+                ring: node.ring,
+                prev: node.prev,
+                next: self.free,
+            },
+        );
+        self.free = Some(one);
+        true
+    }
+
+    /// One wants a turn in a ring, behind all others. Refused where it stands in a ring already.
+    pub fn enter(&mut self, ring: u32, one: u32) -> bool
+        ensures which { result ≡ may_enter self.old.nodes.items ring one }
+        ensures stands { Makes (Stands self.old.nodes.items) (Stands self.new.nodes.items)
+            (λ f. if result then with_ring f ring (after_enter (f ring) one) else f) }
+        ensures used { (k : ℕ) → is_used self.new.nodes.items k ≡ is_used self.old.nodes.items k }
+    {
+        let node = look_at(&self.nodes, one);
+        if !look_at(&self.nodes, ring).used || !node.used || node.ring.is_some() {
+            return false;
+        }
+        append(&mut self.nodes, ring, one);
+        true
+    }
+
+    /// One wants no turn any more.
+    pub fn leave(&mut self, one: u32)
+        ensures stands { Makes (Stands self.old.nodes.items) (Stands self.new.nodes.items) (λ f. without_one f one) }
+        ensures used { (k : ℕ) → is_used self.new.nodes.items k ≡ is_used self.old.nodes.items k }
+    {
+        detach(&mut self.nodes, one);
+    }
+
+    /// Whose turn it is in a ring.
+    pub fn first(&self, ring: u32) -> Option<u32>
+        ensures { Tells (Stands self.now.nodes.items) result (λ f. next_in (f ring)) }
+    {
+        look_at(&self.nodes, ring).first
+    }
+
+    /// Whose turn it is in a ring. That one wants none until it says so again.
+    pub fn take(&mut self, ring: u32) -> Option<u32>
+        ensures turn { Tells (Stands self.old.nodes.items) result (λ f. next_in (f ring)) }
+        ensures stands { Makes (Stands self.old.nodes.items) (Stands self.new.nodes.items)
+            (λ f. with_ring f ring (after_turn (f ring))) }
+        ensures used { (k : ℕ) → is_used self.new.nodes.items k ≡ is_used self.old.nodes.items k }
+    {
+        let first = self.first(ring)?;
+        detach(&mut self.nodes, first);
+        Some(first)
+    }
+
+    /// Whose turn it would be in a ring is passed over, and goes behind all others.
+    pub fn pass(&mut self, ring: u32) -> Option<u32>
+        ensures turn { Tells (Stands self.old.nodes.items) result (λ f. next_in (f ring)) }
+        ensures stands { Makes (Stands self.old.nodes.items) (Stands self.new.nodes.items)
+            (λ f. with_ring f ring (after_pass (f ring))) }
+        ensures used { (k : ℕ) → is_used self.new.nodes.items k ≡ is_used self.old.nodes.items k }
+    {
+        let first = self.first(ring)?;
+        detach(&mut self.nodes, first);
+        append(&mut self.nodes, ring, first);
+        Some(first)
+    }
+}
