@@ -32,7 +32,7 @@ fn append(nodes: &mut Vec<Node>, ring: u32, one: u32)
 
 // One stands in no ring any more.
 #[inline(always)]
-fn detach(nodes: &mut Vec<Node>, one: u32)
+fn leave_ring(nodes: &mut Vec<Node>, one: u32)
     ensures stands { Makes (Stands nodes.old.items) (Stands nodes.new.items) (λ f. without_one f one) }
     ensures out { ring_of nodes.new.items one ≡ None }
     ensures used { (k : ℕ) → is_used nodes.new.items k ≡ is_used nodes.old.items k }
@@ -111,7 +111,7 @@ impl Rings {
         if !node.used || node.first.is_some() {
             return false;
         }
-        detach(&mut self.nodes, one);
+        leave_ring(&mut self.nodes, one);
         let node = look_at(&self.nodes, one);
         write(
             &mut self.nodes,
@@ -149,7 +149,7 @@ impl Rings {
         ensures stands { Makes (Stands self.old.nodes.items) (Stands self.new.nodes.items) (λ f. without_one f one) }
         ensures used { (k : ℕ) → is_used self.new.nodes.items k ≡ is_used self.old.nodes.items k }
     {
-        detach(&mut self.nodes, one);
+        leave_ring(&mut self.nodes, one);
     }
 
     /// Whose turn it is in a ring.
@@ -167,7 +167,7 @@ impl Rings {
         ensures used { (k : ℕ) → is_used self.new.nodes.items k ≡ is_used self.old.nodes.items k }
     {
         let first = self.first(ring)?;
-        detach(&mut self.nodes, first);
+        leave_ring(&mut self.nodes, first);
         Some(first)
     }
 
@@ -179,7 +179,7 @@ impl Rings {
         ensures used { (k : ℕ) → is_used self.new.nodes.items k ≡ is_used self.old.nodes.items k }
     {
         let first = self.first(ring)?;
-        detach(&mut self.nodes, first);
+        leave_ring(&mut self.nodes, first);
         append(&mut self.nodes, ring, first);
         Some(first)
     }

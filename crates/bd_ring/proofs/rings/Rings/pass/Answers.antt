@@ -10,6 +10,6 @@ returns-clause-stands c = λ f h.
     let e = sym (c.first.ensures f h) ∙ c.in_ok-first.was in
     let lt : x < length ns = first_there ns f h l x e in
     said_so c.append.new.nodes.items (with_ring (without_one f x) l (after_enter (without_one f x l) x)) (with_ring f l (after_pass (f l)))
-    (c.append.ensures.stands (without_one f x) (c.detach.ensures.stands f h) (c.detach.ensures.used l ∙ first_used ns f h l x e)
-    (let n = c.detach.ensures.len in omega (arith, lt, n)) c.detach.ensures.out)
+    (c.append.ensures.stands (without_one f x) (c.leave_ring.ensures.stands f h) (c.leave_ring.ensures.used l ∙ first_used ns f h l x e)
+    (let n = c.leave_ring.ensures.len in omega (arith, lt, n)) c.leave_ring.ensures.out)
     (passed ns f h l x e)

@@ -7,5 +7,5 @@ use Rattle.bd_ring.proofs.rings.Rings.take.Goals as goal
 pub returns-clause-stands : goal.returns-clause-stands
 returns-clause-stands c = λ f h.
     let ns = c.args.self.now.nodes.items in let l = c.args.ring in let x = c.in_ok-first.first in
-    said_so c.detach.new.nodes.items (without_one f x) (with_ring f l (after_turn (f l))) (c.detach.ensures.stands f h)
+    said_so c.leave_ring.new.nodes.items (without_one f x) (with_ring f l (after_turn (f l))) (c.leave_ring.ensures.stands f h)
     (turned ns f h l x (sym (c.first.ensures f h) ∙ c.in_ok-first.was))

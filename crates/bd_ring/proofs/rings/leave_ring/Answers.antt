@@ -1,7 +1,7 @@
 use Rattle.std.proofs.Common.{ap, sym, ◌∙◌}
 use Rattle.bd_ring.specs.declared.nodes.Node.{Node}
 use Rattle.bd_ring.proofs.Standing.{detached_by, stays_out}
-use Rattle.bd_ring.proofs.rings.detach.Goals as goal
+use Rattle.bd_ring.proofs.rings.leave_ring.Goals as goal
 
 pub returns-in_default-clause-stands : goal.returns-in_default-clause-stands
 returns-in_default-clause-stands c = λ f h. stays_out c.args.nodes.now.items f h c.args.one (sym (ap (λ (n : Node). n.ring) c.look_at-node.ensures) ∙ c.in_default.is)
