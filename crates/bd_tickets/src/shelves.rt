@@ -1,8 +1,8 @@
 //! The descriptors of parcels that are on their way, in so many lists that none is long.
 
-ghost use Rattle.std.specs.Prelude.{ℕ, ◌≡◌, ◌+◌, ◌%◌, [], Some, None, OnOk, OnErr, IfOk, IfErr, IfSome, IfNone, MatchOption, option_map, is_some, true};
+ghost use Rattle.std.specs.Prelude.{ℕ, ◌≡◌, ◌+◌, ◌%◌, [], length, Some, None, OnOk, OnErr, IfOk, IfErr, IfSome, IfNone, MatchOption, option_map, is_some, true};
 ghost use Rattle.bd_tickets.specs.Held.{count_of, descriptors_of};
-ghost use Rattle.bd_tickets.specs.Shelves.{held_on, on_way, parcels_at, ArePlaced};
+ghost use Rattle.bd_tickets.specs.Shelves.{held_on, on_way, parcels_at, ArePlaced, IsFull};
 
 use crate::tickets::Tickets;
 use std::alloc::{AllocError, Global};
@@ -14,7 +14,8 @@ const LISTS: u64 = 1024;
 #[derive(Drop)]
 pub struct Shelves {
     pub(crate) lists: Vec<Tickets>,
-    // Each step's parcel is on its own list.
+    // There is a list for each step, and its parcel is on that.
+    ghost many: { length lists.items ≡ 1024 },
     ghost placed: { ArePlaced lists.items },
 }
 
@@ -28,9 +29,10 @@ fn list_of(step: u64) -> usize
 fn empty_lists(alloc: Global) -> Result<Vec<Tickets>, AllocError>
     ensures held { IfOk result (λ v. (d : ℕ) → held_on v.items d ≡ 0) }
     ensures none { IfOk result (λ v. (i : ℕ) → parcels_at v.items i ≡ []) }
+    ensures many { IfOk result (λ v. length v.items ≡ 1024) }
 {
     let mut lists = Vec::with_capacity(alloc, LISTS as usize)?;
-    for _ in 0..LISTS {
+    for made in 0..LISTS {
         lists.push(Tickets::new(alloc))?;
     }
     Ok(lists)
@@ -79,6 +81,8 @@ impl Shelves {
         ensures back { IfErr result (λ ds. ds.items ≡ descriptors.items) }
         ensures err { OnErr result ((d : ℕ) → held_on self.new.lists.items d ≡ held_on self.old.lists.items d) }
         ensures same { OnErr result (on_way self.new.lists.items step ≡ on_way self.old.lists.items step) }
+        // Memory was asked for: there was no room on its list.
+        ensures grown { OnErr result (IsFull self.old.lists.items step) }
     {
         match self.lists.get_mut(list_of(step)) {
             Some(tickets) => tickets.put(step, descriptors),

@@ -1,6 +1,6 @@
 //! The descriptors of parcels that are on their way.
 
-ghost use Rattle.std.specs.Prelude.{ℕ, ◌≡◌, ◌+◌, ◌≤◌, [], true, false, length, Some, None, OnOk, OnErr, IfErr, IfSome, IfNone, MatchOption, option_map, is_some};
+ghost use Rattle.std.specs.Prelude.{ℕ, ◌≡◌, ◌+◌, ◌≤◌, [], true, false, length, Some, None, OnOk, OnErr, IfErr, IfSome, IfNone, MatchOption, option_map, is_some, vec_len, vec_capacity};
 ghost use Rattle.bd_tickets.specs.Held.{held, count_of, descriptors_of};
 
 use std::alloc::Global;
@@ -61,6 +61,8 @@ impl Tickets {
         ensures back { IfErr result (λ ds. ds.items ≡ descriptors.items) }
         ensures err { OnErr result ((d : ℕ) → held self.new d ≡ held self.old d) }
         ensures same { OnErr result (self.new.parcels.items ≡ self.old.parcels.items) }
+        // Memory was asked for: there was no room.
+        ensures grown { OnErr result (vec_capacity self.old.parcels ≤ vec_len self.old.parcels) }
     {
         match self.parcels.push(Parcel { step, descriptors }) {
             Ok(()) => Ok(()),

@@ -44,6 +44,7 @@ invariant_of-self c =
     let lt : i < length xs = search rules in
     let at : get_or xs i t ≡ t = search rules in
     record {
+      many = search rules;
       placed = placed xs c.args.step i t c.put.new.self c.args.self.now.placed c.list_of.ensures lt at (λ s isnt.
           either c.put.result (on_ok c.put.result (λ same. same s isnt) c.put.ensures.others) (on_err c.put.result (λ same. ap (descriptors_of s) same) c.put.ensures.same));
     }

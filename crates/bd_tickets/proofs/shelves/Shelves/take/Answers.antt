@@ -18,4 +18,7 @@ invariant_of-self c =
     let t = c.in-Some.tickets.now in
     let lt : i < length xs = search rules in
     let at : get_or xs i t ≡ t = search rules in
-    record { placed = placed xs c.args.step i t c.take.new.self c.args.self.now.placed c.list_of.ensures lt at c.take.ensures.others }
+    record {
+      many = search rules;
+      placed = placed xs c.args.step i t c.take.new.self c.args.self.now.placed c.list_of.ensures lt at c.take.ensures.others;
+    }
