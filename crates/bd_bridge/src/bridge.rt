@@ -1,6 +1,6 @@
 //! The bridge: an engine, those who wait, and who of them is to be looked at.
 
-ghost use Rattle.std.specs.Prelude.{ℕ, ◌≡◌, ◌⊎◌, ◌==◌, ◌&&◌, ◌<◌, ◌≤◌, ◌+◌, Some, None, [], true, false, IsTrue, IsSome, if◌then◌else◌, MatchOption, IfOk, IfSome, IsNone, OnOk, OnErr, option_map, vec_len, vec_capacity};
+ghost use Rattle.std.specs.Prelude.{ℕ, ◌≡◌, ◌⊎◌, ◌==◌, ◌&&◌, ◌<◌, ◌≤◌, ◌+◌, ◌-◌, Some, None, [], true, false, IsTrue, IsSome, if◌then◌else◌, MatchOption, IfOk, IfSome, IsNone, OnOk, OnErr, option_map, vec_len, vec_capacity};
 ghost use Rattle.bd_bridge.specs.{Suspects.{is_suspect, suspects_in}, Waiting.{at, seats_in}, Reached.{names}};
 ghost use Rattle.bd_bridge.specs.Forgotten.{NobodyIsForgotten, NobodyIsForgottenBut, IsInformed, IsLeft};
 ghost use Rattle.bd_bridge.specs.{Settled.{HasSettled}, Due.{Fits, IsRight}, Signals.{IsDue, WaitsAfter, IsMade, answered, signals_of, seat_of, after_signal, awake, awakened, world_after, world_then}};
@@ -60,6 +60,7 @@ impl<E: Engine> Bridge<E> {
     fn waiter_or_new(&self, seat: u32) -> Waiter
         ensures of { (h : E.World) → E.Follows self.now.engine h → NobodyIsForgotten (E.Sees h) (E.IsOf h) (E.CanRest h) self.now.waiters self.now.suspects self.now.resting → E.IsOf h seat result.process }
         ensures known { IfSome (at self.now.waiters seat) (λ w. result ≡ w) }
+        ensures new { IsNone (at self.now.waiters seat) → (result.reads ≡ None) × (result.has_doorbell ≡ false) × (result.is_rung ≡ false) }
     {
         match self.waiters.get(seat) {
             Some(waiter) => waiter,
@@ -97,6 +98,9 @@ impl<E: Engine> Bridge<E> {
         ensures waits { OnOk result (option_map (λ (w : _). w.reads) (at self.new.waiters seat) ≡ Some (Some reading)) }
         ensures doorbell { OnOk result (IfSome (at self.old.waiters seat) (λ o. option_map (λ (w : _). w.has_doorbell) (at self.new.waiters seat) ≡ Some o.has_doorbell)) }
         ensures rung { OnOk result (IfSome (at self.old.waiters seat) (λ o. option_map (λ (w : _). w.is_rung) (at self.new.waiters seat) ≡ Some o.is_rung)) }
+        // Who hasn't waited so far has none.
+        ensures new { OnOk result (IsNone (at self.old.waiters seat) → option_map (λ (w : _). w.has_doorbell) (at self.new.waiters seat) ≡ Some false) }
+        ensures silent { OnOk result (IsNone (at self.old.waiters seat) → option_map (λ (w : _). w.is_rung) (at self.new.waiters seat) ≡ Some false) }
         ensures others { (t : ℕ) → (t ≡ seat → ⊥) → at self.new.waiters t ≡ at self.old.waiters t }
         ensures err { OnErr result ((t : ℕ) → at self.new.waiters t ≡ at self.old.waiters t) }
         ensures engine { self.new.engine ≡ self.old.engine }
@@ -142,6 +146,8 @@ impl<E: Engine> Bridge<E> {
         ensures waits { OnOk result (option_map (λ (w : _). w.has_doorbell) (at self.new.waiters seat) ≡ Some true) }
         ensures silent { OnOk result (option_map (λ (w : _). w.is_rung) (at self.new.waiters seat) ≡ Some false) }
         ensures reads { OnOk result (IfSome (at self.old.waiters seat) (λ o. option_map (λ (w : _). w.reads) (at self.new.waiters seat) ≡ Some o.reads)) }
+        // Who hasn't waited so far waits in no read.
+        ensures new { OnOk result (IsNone (at self.old.waiters seat) → option_map (λ (w : _). w.reads) (at self.new.waiters seat) ≡ Some None) }
         ensures others { (t : ℕ) → (t ≡ seat → ⊥) → at self.new.waiters t ≡ at self.old.waiters t }
         ensures err { OnErr result ((t : ℕ) → at self.new.waiters t ≡ at self.old.waiters t) }
         ensures engine { self.new.engine ≡ self.old.engine }
@@ -443,6 +449,8 @@ impl<E: Engine> Bridge<E> {
         ensures watched { IsNone result → (h : E.World) → E.Follows self.old.engine h → NobodyIsForgotten (E.Sees h) (E.IsOf h) (E.CanRest h) self.old.waiters self.old.suspects self.old.resting
             → NobodyIsForgotten (E.Sees h) (E.IsOf h) (E.CanRest h) self.old.waiters self.new.suspects self.new.resting }
         ensures progress { IsNone result → suspects_in self.old.suspects ≤ looks → suspects_in self.new.suspects ≡ 0 }
+        // Where there are more, they are fewer by each look.
+        ensures fewer { IsNone result → suspects_in self.new.suspects ≤ suspects_in self.old.suspects - looks }
     {
         for look in 0..looks {
             let seat = self.suspects.take()?;
@@ -508,6 +516,7 @@ impl<E: Engine> Bridge<E> {
             → (let h' = world_then E.has_read h signals.new.items in (t : ℕ) (w : _) → at self.new.waiters t ≡ Some w → IsInformed (E.Sees h') t w ⊎ IsLeft (E.CanRest h') t w) }
         // Looks that come to no signal come to an end.
         ensures progress { signals.new.items ≡ [] → suspects_in self.old.suspects ≤ looks → IsTrue result }
+        ensures fewer { signals.new.items ≡ [] → suspects_in self.new.suspects ≤ suspects_in self.old.suspects - looks }
         ensures capacity { vec_capacity signals.new ≡ vec_capacity signals.old }
         ensures seats { seats_in self.new.waiters ≡ seats_in self.old.waiters }
     {
@@ -533,6 +542,8 @@ impl<E: Engine> Bridge<E> {
         ensures unmade { IsNone result → (self.new.engine ≡ self.old.engine) × (kept.new ≡ kept.old) }
         ensures made { IfSome result (λ x. IsMade E.MadeRead self.old.engine kept.old (at self.old.waiters (seat_of x)) x self.new.engine kept.new) }
         ensures progress { IsNone result → suspects_in self.old.suspects ≤ looks → suspects_in self.new.suspects ≡ 0 }
+        // Where there are more, they are fewer by each look.
+        ensures fewer { IsNone result → suspects_in self.new.suspects ≤ suspects_in self.old.suspects - looks }
         ensures seats { seats_in self.new.waiters ≡ seats_in self.old.waiters }
     {
         match self.next_due(looks) {

@@ -1,6 +1,6 @@
 //! Those who wait, by process.
 
-ghost use Rattle.std.specs.Prelude.{ℕ, ◌≡◌, ◌==◌, ◌≤◌, ◌++◌, ◌∷◌, ◌&&◌, if◌then◌else◌, [], is_ok, true, not, filter, vec_len, vec_capacity};
+ghost use Rattle.std.specs.Prelude.{ℕ, ◌≡◌, ◌==◌, ◌≤◌, ◌++◌, ◌∷◌, ◌&&◌, if◌then◌else◌, [], is_ok, true, false, not, filter, vec_len, vec_capacity};
 ghost use Rattle.bd_bridge.specs.Groups.{seats_of};
 ghost use Rattle.bd_bridge.specs.Named.{has_seat};
 
@@ -72,6 +72,9 @@ impl Groups {
     pub fn come_last(&mut self, alloc: Global, process: u64, seat: u32) -> Result<(), AllocError>
         ensures kept { (p t : ℕ) → has_seat (seats_of self.old p) t ≡ true → has_seat (seats_of self.new p) t ≡ true }
         ensures come { is_ok result ≡ true → has_seat (seats_of self.new process) seat ≡ true }
+        // It stands there once, however often it came.
+        ensures last { (p : ℕ) → seats_of self.new p
+            ≡ (if is_ok result && (p == process) then filter (λ s. not (s == seat)) (seats_of self.old p) ++ seat ∷ [] else seats_of self.old p) }
     {
         if let Some(seats) = self.lists.get_mut(&process) {
             return bring_last(seats, seat);
@@ -81,6 +84,7 @@ impl Groups {
 
     /// One of a process leaves, and with the last one its list.
     pub fn remove(&mut self, process: u64, seat: u32)
+        ensures gone { has_seat (seats_of self.new process) seat ≡ false }
         ensures left { (p t : ℕ) → (t ≡ seat → ⊥) → has_seat (seats_of self.new p) t ≡ has_seat (seats_of self.old p) t }
         ensures others { (p : ℕ) → (p ≡ process → ⊥) → seats_of self.new p ≡ seats_of self.old p }
     {

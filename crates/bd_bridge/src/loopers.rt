@@ -15,7 +15,8 @@ pub struct Loopers {
 impl Loopers {
     /// None may be asked for.
     pub fn new() -> Loopers
-        ensures { result.started + result.requested ≡ 0 }
+        ensures none { result.started + result.requested ≡ 0 }
+        ensures max { result.max ≡ 0 }
     {
         Loopers {
             max: 0,
