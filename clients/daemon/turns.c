@@ -548,7 +548,9 @@ void turns_note_time(struct turns *turns)
 
 static void begin_turn(struct turns *turns, struct client *client)
 {
-    uint64_t from = client->queuer.from > client->user->queuer.from ? client->queuer.from : client->user->queuer.from;
+    uint64_t from = 0; /* any of these may have been passed over, as who has ended something large is by its account */
+    for (const struct queuer *it = &client->queuer; it; it = it->above)
+        from = it->from > from ? it->from : from;
     uint64_t waited = turns->count - from;
     if (waited > turns->longest_wait && !turns->is_costly)
         turns->longest_wait = waited;
