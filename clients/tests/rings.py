@@ -217,7 +217,7 @@ def ring_counts(build):
 SERVICES, THREADS = 40, 100
 # the code of the calls that raw/asleep.c leaves without a reply
 KEEP_WAITING = "0x3"
-CALLS = sum(i % 8 == 1 for i in range(THREADS))
+CALLS = (THREADS + 7) // 8
 # open files of one process, so many that the daemon has three in some of its 256 lists: a page of 16 ends in the midst of one
 OPENS = 600
 # what the program of these threads is called, as none is that names itself: it would be lines of its own, and clear a terminal

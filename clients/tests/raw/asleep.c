@@ -1,7 +1,7 @@
 /* SPDX-License-Identifier: Apache-2.0 OR MIT */
 /*
  * asleep COUNT: descriptors come whole to who has waited for long, and to who has not. Then so many threads wait, each in a read
- * or, of every eighth, for a reply, until the device has ended under them: `ready` is printed once they do, and when they have
+ * or, the last eighth, for a reply, until the device has ended under them: `ready` is printed once they do, and when they have
  * been told.
  */
 #include "raw.h"
@@ -82,17 +82,30 @@ static void pass_some(struct client *client)
 static struct client client;
 static atomic_size_t count;
 
-static void *wait_for_end(void *with)
+static void await(size_t wanted)
+{
+    while (count < wanted)
+        usleep(1000);
+}
+
+/* A thread's first ioctl comes back at once, so it makes another one before: a reader makes no step from then on, and what a caller makes
+   is its call. */
+static void *wait_for_end(void *calls)
 {
     struct looper looper;
+    struct turn turn;
     struct binder_transaction_data reply;
     raw_looper(&looper, &client, NULL);
+    if (!calls)
+        put_code(&looper.commands, BC_ENTER_LOOPER);
+    CHECK(looper_flush(&looper), "can't write");
     atomic_fetch_add(&count, 1);
     errno = 0;
-    if ((uintptr_t)with % 8 == 1)
+    if (calls)
         CHECK(!raw_call(&looper, (struct call){.code = KEEP_WAITING}, &reply), "a call was answered");
     else
-        looper_run(&looper);
+        while (looper_turn(&looper, &turn))
+            ;
     CHECK(errno == ENODEV, "a wait has ended otherwise");
     return NULL;
 }
@@ -108,10 +121,12 @@ int main(int argc, char **argv)
     pass_some(&client);
     pthread_attr_init(&attributes);
     pthread_attr_setstacksize(&attributes, STACK);
-    for (size_t i = 0; i < wanted; i++)
-        CHECK(threads && !pthread_create(&threads[i], &attributes, wait_for_end, (void *)i), "thread %zu", i);
-    while (count < wanted)
-        usleep(1000);
+    for (size_t i = 0, readers = wanted - (wanted + 7) / 8; i < wanted; i++) {
+        if (i == readers)
+            await(readers); /* so that no step comes behind those of the callers */
+        CHECK(threads && !pthread_create(&threads[i], &attributes, wait_for_end, i < readers ? NULL : &client), "thread %zu", i);
+    }
+    await(wanted);
     puts("ready");
     for (size_t i = 0; i < wanted; i++)
         pthread_join(threads[i], NULL);
