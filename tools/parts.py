@@ -30,11 +30,14 @@ PLAYER = os.path.relpath(proved.PLAYER, ROOT)
 TRIES = 3
 # seconds for what an ended part has printed to arrive
 LAST_WORDS = 5
+# on a busy machine a part may take longer, but no more than so many times
+MOST_TIMES = 10
 
 
 class Part:
-    """A part: its command; how a line with its count looks, `passed` and `failed` in it; how many minutes it may take; which parts it
-    stands on; which kinds of packages it needs (tools/fetch), and whether a network besides. A count that isn't of tests is one test."""
+    """A part: its command; how a line with its count looks, `passed` and `failed` in it; how many minutes it may take of a machine that
+    does nothing else; which parts it stands on; which kinds of packages it needs (tools/fetch), and whether a network besides. A count
+    that isn't of tests is one test."""
 
     def __init__(self, name, words, count, minutes, needs=(), kinds=(), network=False):
         self.name, self.words, self.count, self.minutes = name, words, re.compile(count, re.M), minutes
@@ -95,6 +98,21 @@ def ended(child):
             pass
 
 
+def share():
+    """How much of a processor one of many gets here, as the load tells, in which what asks is counted too."""
+    return max(1 / MOST_TIMES, min(1, len(os.sched_getaffinity(0)) / max(os.getloadavg()[0], 1)))
+
+
+def waited(child, seconds):
+    """A child's status; None where it took more than so many seconds of a machine that does nothing else."""
+    while seconds > 0:
+        try:
+            return child.wait(timeout=1)
+        except subprocess.TimeoutExpired:
+            seconds -= share()
+    return None
+
+
 def watched(part, log):
     """Runs a part, prints what it says and writes it down; what it said, and its status, None where it took too long. What it leaves
     running is ended, and doesn't keep this waiting."""
@@ -111,9 +129,7 @@ def watched(part, log):
     listener = threading.Thread(target=listen, daemon=True)
     listener.start()
     try:
-        status = child.wait(timeout=60 * part.minutes)
-    except subprocess.TimeoutExpired:
-        status = None
+        status = waited(child, 60 * part.minutes)
     finally:
         listener.join(0 if child.poll() is None else LAST_WORDS)
         ended(child)
