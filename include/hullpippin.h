@@ -27,7 +27,7 @@
  * The library can't see the following, which is yours to keep. If you don't, nothing is promised:
  *
  *  - Each handle is empty when you make it: HULLPIPPIN_NO_DRIVER, HULLPIPPIN_NO_SEAT, HULLPIPPIN_NO_LIVE, HULLPIPPIN_NO_TICKETS,
- *    or all zeros, as a static one is. From then on it has what a function of this header left there. You don't copy it, and neither read nor
+ *    HULLPIPPIN_NO_RINGS, or all zeros, as a static one is. From then on it has what a function of this header left there. You don't copy it, and neither read nor
  *    change its pointer.
  *  - No pointer is wild: each leads to what it says, of the size that you tell. NULL is wild, but for (NULL, 0), which are no
  *    bytes or no numbers: so no handle is at NULL, nor an answer or a size that a call fills.
@@ -73,17 +73,24 @@ typedef struct {
     void *at;
 } hullpippin_tickets;
 
+/* Rings beside an engine, which say whose turn it is. */
+typedef struct {
+    void *at;
+} hullpippin_rings;
+
 /* Handles that have nothing, to begin with or to assign. A static handle without another value begins as one. */
 #ifdef __cplusplus
 #define HULLPIPPIN_NO_DRIVER hullpippin_driver{ NULL }
 #define HULLPIPPIN_NO_SEAT hullpippin_seat{ NULL }
 #define HULLPIPPIN_NO_LIVE hullpippin_live{ NULL }
 #define HULLPIPPIN_NO_TICKETS hullpippin_tickets{ NULL }
+#define HULLPIPPIN_NO_RINGS hullpippin_rings{ NULL }
 #else
 #define HULLPIPPIN_NO_DRIVER ((hullpippin_driver){ NULL })
 #define HULLPIPPIN_NO_SEAT ((hullpippin_seat){ NULL })
 #define HULLPIPPIN_NO_LIVE ((hullpippin_live){ NULL })
 #define HULLPIPPIN_NO_TICKETS ((hullpippin_tickets){ NULL })
+#define HULLPIPPIN_NO_RINGS ((hullpippin_rings){ NULL })
 #endif
 
 /* Where a buffer of no bytes may be, one of no numbers, and one of no places; NULL does as well. */
@@ -976,6 +983,50 @@ bool hullpippin_tickets_some_step(hullpippin_tickets *tickets, uint64_t *step);
 
 /* Lets go of tickets, and empties the handle: whatever is still on its way is nobody's then. Does nothing where it is empty. */
 void hullpippin_free_tickets(hullpippin_tickets *tickets);
+
+/*
+ * Rings: whose turn it is, among those that share something. Each is known by a number, which is of a ring too: of those below it. So
+ * processes stand in the ring of their user, and users in that of all.
+ *
+ *     if (hullpippin_rings_new(&rings) || hullpippin_rings_add(&rings, &all) || hullpippin_rings_add(&rings, &one)) ..
+ *     hullpippin_rings_enter(&rings, all, one);                                 .. the one wants a turn in the ring of all ..
+ *     while (hullpippin_rings_first(&rings, all, &next) && .. the next has had too much ..)
+ *         hullpippin_rings_pass(&rings, all);
+ *     if (hullpippin_rings_take(&rings, all, &next)) .. it has its turn, and comes again if it wants another ..
+ *
+ * Proved is that each stands in one ring at most, and there once; and that, from when one comes into a ring until it has its turn there, each
+ * other has one at most, and one more for each time that the one was passed over, whoever comes and goes meanwhile. All calls take a time that
+ * doesn't depend on how many there are, and only add takes memory.
+ */
+
+/* Makes rings: no number is anybody's. `rings` is empty, and stays so unless the answer is DONE. Also NO_MEMORY, MISUSE. */
+uint32_t hullpippin_rings_new(hullpippin_rings *rings);
+
+/* Tells a number that nobody has, which is the caller's from then on: nobody stands in its ring, and it stands in none. They are counted from 0,
+   and what was given back comes first. Also NO_MEMORY, where there is no such number either, and MISUSE; then `number` stays as it was. */
+uint32_t hullpippin_rings_add(hullpippin_rings *rings, uint32_t *number);
+
+/* Gives a number back, which leaves its ring. False where it is nobody's, or anybody stands in its own ring; then all is as before. */
+bool hullpippin_rings_remove(hullpippin_rings *rings, uint32_t number);
+
+/* One wants a turn in a ring, behind all others there. False where it stands in a ring already, or one of the two numbers is nobody's; then all
+   is as before. */
+bool hullpippin_rings_enter(hullpippin_rings *rings, uint32_t ring, uint32_t one);
+
+/* One wants no turn any more. Does nothing where it stands in no ring. */
+void hullpippin_rings_leave(hullpippin_rings *rings, uint32_t one);
+
+/* Tells whose turn it is in a ring. False where nobody stands there, and then `one` stays as it was. */
+bool hullpippin_rings_first(hullpippin_rings *rings, uint32_t ring, uint32_t *one);
+
+/* The same; and that one has it, and stands there no more. */
+bool hullpippin_rings_take(hullpippin_rings *rings, uint32_t ring, uint32_t *one);
+
+/* Whose turn it would be in a ring is passed over, and goes behind all others. False where nobody stands there. */
+bool hullpippin_rings_pass(hullpippin_rings *rings, uint32_t ring);
+
+/* Lets go of rings, and empties the handle. Does nothing where it is empty. */
+void hullpippin_free_rings(hullpippin_rings *rings);
 
 /* Room for every text, and the NUL behind it. */
 #define HULLPIPPIN_TEXT_ROOM 64

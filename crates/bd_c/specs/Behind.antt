@@ -1,6 +1,7 @@
--- What is behind a handle: a driver, the history of one that has ended, a seat, a live engine, or descriptors that are on their way.
+-- What is behind a handle: a driver, the history of one that has ended, a seat, a live engine, descriptors that are on their way, or rings.
 use Rattle.std.specs.Prelude.{◌≡◌, ◌⊎◌, Option, Some, None, ⊤, IsSomeAnd}
 use Rattle.bd_spelling.specs.declared.record.Record.{Record}
+use Rattle.bd_ring.specs.declared.rings.Rings.{Rings}
 use Rattle.bd_tickets.specs.declared.shelves.Shelves.{Shelves}
 use Rattle.bd_c.specs.declared.held.Held.{Held}
 use Rattle.bd_c.specs.declared.held.Held.TheVariants as held
@@ -46,6 +47,10 @@ abbrev pub tickets_of : Held → Option Shelves
 tickets_of (held.Tickets x) = Some x
 tickets_of _ = None
 
+abbrev pub rings_of : Held → Option Rings
+rings_of (held.Rings x) = Some x
+rings_of _ = None
+
 abbrev pub IsDriver : Option Held → Type 0
 IsDriver h = Of driver_of h (λ x. ⊤)
 
@@ -61,3 +66,6 @@ IsLive h = Of live_of h (λ x. ⊤)
 
 abbrev pub IsTickets : Option Held → Type 0
 IsTickets h = Of tickets_of h (λ x. ⊤)
+
+abbrev pub IsRings : Option Held → Type 0
+IsRings h = Of rings_of h (λ x. ⊤)

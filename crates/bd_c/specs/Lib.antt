@@ -27,3 +27,4 @@ pub mod Walks
 pub mod SpaceTold
 pub mod Texts
 pub mod Tickets
+pub mod Turns

@@ -2,6 +2,7 @@
 use crate::host::Host;
 use crate::live::OwnedLive;
 use crate::seat::OwnedSeat;
+use bd_ring::Rings;
 use bd_spelling::Record;
 use bd_tickets::Shelves;
 
@@ -18,6 +19,8 @@ pub enum Held {
     Live(OwnedLive),
     /// The descriptors of parcels that are on their way.
     Tickets(Shelves),
+    /// Those that want turns.
+    Rings(Rings),
     /// Nothing yet, or no longer.
     Nothing,
 }

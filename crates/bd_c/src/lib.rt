@@ -1,8 +1,8 @@
 //! A driver for programs in C or Rust: what they link with. A program has handles, one of the driver and one of each
 //! seat, and whoever has a seat's handle makes that seat's calls. What the calls answer stays with the seat until its
 //! next call, so that a caller can fetch it in buffers of the size that it was told. Or a program has one handle of a live
-//! engine, which keeps no history, and makes all seats' steps with it, and one of the descriptors that are on their way beside
-//! that. What is spelled or read needs no handle.
+//! engine, which keeps no history, and makes all seats' steps with it, one of the descriptors that are on their way beside that, and
+//! one of rings, which say whose turn it is. What is spelled or read needs no handle.
 #![tactic(auto)]
 
 mod answers;
@@ -38,6 +38,7 @@ mod pages;
 mod parcel_calls;
 mod parts;
 mod requests;
+mod ring_calls;
 mod seat;
 mod seat_calls;
 mod space_calls;

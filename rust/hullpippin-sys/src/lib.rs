@@ -62,6 +62,19 @@ impl hullpippin_tickets {
     pub const NONE: hullpippin_tickets = hullpippin_tickets { at: core::ptr::null_mut() };
 }
 
+/// Rings beside an engine, which say whose turn it is.
+#[repr(C)]
+#[derive(Debug)]
+pub struct hullpippin_rings {
+    /// What the library keeps.
+    pub at: *mut core::ffi::c_void,
+}
+
+impl hullpippin_rings {
+    /// A handle that has nothing.
+    pub const NONE: hullpippin_rings = hullpippin_rings { at: core::ptr::null_mut() };
+}
+
 /// It was made.
 pub const HULLPIPPIN_DONE: u32 = 0;
 
@@ -1391,4 +1404,36 @@ extern "C" {
     /// Lets go of tickets, and empties the handle: whatever is still on its way is nobody's then. Does nothing where it
     /// is empty.
     pub fn hullpippin_free_tickets(tickets: *mut hullpippin_tickets);
+
+    /// Makes rings: no number is anybody's. `rings` is empty, and stays so unless the answer is DONE. Also NO_MEMORY,
+    /// MISUSE.
+    pub fn hullpippin_rings_new(rings: *mut hullpippin_rings) -> u32;
+
+    /// Tells a number that nobody has, which is the caller's from then on: nobody stands in its ring, and it stands in
+    /// none. They are counted from 0, and what was given back comes first. Also NO_MEMORY, where there is no such
+    /// number either, and MISUSE; then `number` stays as it was.
+    pub fn hullpippin_rings_add(rings: *mut hullpippin_rings, number: *mut u32) -> u32;
+
+    /// Gives a number back, which leaves its ring. False where it is nobody's, or anybody stands in its own ring; then
+    /// all is as before.
+    pub fn hullpippin_rings_remove(rings: *mut hullpippin_rings, number: u32) -> bool;
+
+    /// One wants a turn in a ring, behind all others there. False where it stands in a ring already, or one of the two
+    /// numbers is nobody's; then all is as before.
+    pub fn hullpippin_rings_enter(rings: *mut hullpippin_rings, ring: u32, one: u32) -> bool;
+
+    /// One wants no turn any more. Does nothing where it stands in no ring.
+    pub fn hullpippin_rings_leave(rings: *mut hullpippin_rings, one: u32);
+
+    /// Tells whose turn it is in a ring. False where nobody stands there, and then `one` stays as it was.
+    pub fn hullpippin_rings_first(rings: *mut hullpippin_rings, ring: u32, one: *mut u32) -> bool;
+
+    /// The same; and that one has it, and stands there no more.
+    pub fn hullpippin_rings_take(rings: *mut hullpippin_rings, ring: u32, one: *mut u32) -> bool;
+
+    /// Whose turn it would be in a ring is passed over, and goes behind all others. False where nobody stands there.
+    pub fn hullpippin_rings_pass(rings: *mut hullpippin_rings, ring: u32) -> bool;
+
+    /// Lets go of rings, and empties the handle. Does nothing where it is empty.
+    pub fn hullpippin_free_rings(rings: *mut hullpippin_rings);
 }
