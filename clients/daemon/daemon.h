@@ -83,9 +83,12 @@ static inline void list_remove(struct list *entry)
 
 /* By accounts, then by their users, then by the processes of these, in the order in which they want one: who had a turn comes last. */
 struct queuer {
-    struct queuer *above;  /* NULL: it is all of them */
-    struct list in_ring;   /* of the one above, where it wants a turn */
-    struct list ring;      /* those below it that want one: a client's are its watches */
+    struct turns *turns;
+    struct queuer *above;  /* NULL: it is a whole machine */
+    struct queuer *in;     /* in whose ring it stands; NULL: in none */
+    uint32_t number;       /* by which the library knows it, and the ring of those below it that want a turn .. */
+    uint32_t standing;     /* .. who are so many */
+    uint32_t debtors;      /* so many below it owe anything, whether they want a turn or not */
     bool has_turn;         /* the latest, and isn't in the ring again */
     uint64_t owed;  /* nanoseconds that it had beyond its turns: as many turns pass it over */
     uint64_t since; /* when it last wanted no more */
@@ -98,8 +101,8 @@ struct payer {
     struct list in_bucket;
     uint64_t account;
     uint32_t references;
-    struct list costly;    /* its clients that want a costly turn */
-    struct list in_costly; /* among those that have such */
+    struct queuer costly;  /* its clients that want a costly turn; it stands among those that have such .. */
+    struct list in_costly; /* .. and is one of these */
     uint64_t rests_until;  /* it has no costly turn before */
     uint64_t recorded;     /* bytes that its turns have recorded beyond what it may .. */
     uint64_t recorded_at;  /* .. as of then */
@@ -122,6 +125,7 @@ struct client {
     struct user *user;
     pid_t pid;
     uint32_t references;
+    struct list watches;   /* those of its own that want a turn */
     uint64_t was_dear;     /* when it last had a turn that was far too long */
     uint64_t costly_until; /* until then its turns are among the costly ones */
 };
@@ -133,8 +137,14 @@ struct client {
 #define TURNS_RECENT 3
 
 struct turns {
+    hullpippin_rings rings;  /* who stands in which ring, and in which order */
+    struct queuer **numbered;
+    uint32_t numbers;        /* so many have room there */
+    uint32_t told;           /* the number that the library told last */
+    uint32_t standing;       /* so many clients stand in their users' rings */
     struct queuer all;
-    struct list costly;      /* accounts with clients that want a costly turn */
+    struct queuer costly;    /* accounts with clients that want a costly turn .. */
+    struct list accounts;    /* .. in any order */
     struct list by_account[TURNS_BUCKETS], by_uid[TURNS_BUCKETS], by_pid[TURNS_BUCKETS];
     struct client *latest;   /* who had the latest turn, and isn't in the ring again; NULL: nobody */
     struct client *ending;   /* whose turns those are by which the daemon sees to ends */

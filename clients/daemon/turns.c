@@ -1,7 +1,10 @@
 /* SPDX-License-Identifier: Apache-2.0 OR MIT */
 /*
- * turns.c: whose turn it is. An account has as many turns as another, however many users it has that want one, a user of it as many
- * as another, however many processes want one, and a process as many as another of its user, however many files and threads it has.
+ * turns.c: who wants a turn, and what it took. An account has as many turns as another, however many users it has that want one, a user of it
+ * as many as another, however many processes want one, and a process as many as another of its user, however many files and threads it has.
+ *
+ * Whose turn it is the library says (include/hullpippin.h, "Rings"): proved is that while one wants a turn each other in its ring has one at
+ * most, and one more for each time that the one was passed over. Here is said who comes, who leaves, and who is passed over for what it owes.
  *
  * A turn ends after some microseconds or steps, and what isn't done by then goes on with the next one. What can't be divided, as a
  * large parcel, may take longer; who had that is passed over until the others have had as much, or the time has gone by.
@@ -60,27 +63,106 @@ uint64_t realtime_offset(void)
     return (uint64_t)now.tv_sec * 1000000000u + (uint64_t)now.tv_nsec - nanoseconds();
 }
 
-/* An account and a user that nobody has. */
+/* An account and a user that nobody has, and for how many numbers there is room at first. */
 #define NO_ACCOUNT UINT64_MAX
 #define NO_UID ((uid_t)-1)
+#define LEAST_NUMBERS 64u
 
-static void begin_queuer(struct queuer *queuer, struct queuer *above)
+/* Room for a number more: those are counted from 0. */
+static bool note_number(struct turns *turns, struct queuer *queuer)
 {
+    if (queuer->number >= turns->numbers) {
+        uint32_t numbers = turns->numbers ? 2 * turns->numbers : LEAST_NUMBERS;
+        struct queuer **more = realloc(turns->numbered, numbers * sizeof *more);
+        if (!more)
+            return false;
+        turns->numbered = more;
+        turns->numbers = numbers;
+    }
+    turns->numbered[queuer->number] = queuer;
+    return true;
+}
+
+/* One that stands in no ring, and in whose own nobody does. False where there is no memory. */
+static bool begin_queuer(struct queuer *queuer, struct turns *turns, struct queuer *above)
+{
+    queuer->turns = turns;
     queuer->above = above;
-    list_begin(&queuer->in_ring);
-    list_begin(&queuer->ring);
+    if (hullpippin_rings_add(&turns->rings, &queuer->number) != HULLPIPPIN_DONE)
+        return false;
+    if (note_number(turns, queuer))
+        return true;
+    hullpippin_rings_remove(&turns->rings, queuer->number);
+    return false;
+}
+
+/* It comes last into a ring, if it stands in none. */
+static void stand_in(struct turns *turns, struct queuer *ring, struct queuer *queuer)
+{
+    if (!hullpippin_rings_enter(&turns->rings, ring->number, queuer->number))
+        return;
+    queuer->in = ring;
+    ring->standing++;
+}
+
+static void stand_in_none(struct queuer *queuer)
+{
+    if (!queuer->in)
+        return;
+    hullpippin_rings_leave(&queuer->turns->rings, queuer->number);
+    queuer->in->standing--;
+    queuer->in = NULL;
+}
+
+/* Whose turn it is in a ring: somebody stands there. */
+static struct queuer *first_in(const struct queuer *ring)
+{
+    struct turns *turns = ring->turns;
+    hullpippin_rings_first(&turns->rings, ring->number, &turns->told);
+    return turns->numbered[turns->told];
+}
+
+/* .. who stands there no more. */
+static struct queuer *take_first_in(struct turns *turns, struct queuer *ring)
+{
+    hullpippin_rings_take(&turns->rings, ring->number, &turns->told);
+    struct queuer *queuer = turns->numbered[turns->told];
+    queuer->in = NULL;
+    ring->standing--;
+    return queuer;
+}
+
+static __attribute__((noinline)) void owe(struct queuer *queuer, uint64_t owed)
+{
+    queuer->above->debtors += (owed != 0) - (queuer->owed != 0);
+    queuer->owed = owed;
+}
+
+static void owe_nothing(struct queuer *queuer)
+{
+    if (queuer->owed)
+        owe(queuer, 0);
+}
+
+static void end_queuer(struct queuer *queuer)
+{
+    owe_nothing(queuer);
+    stand_in_none(queuer);
+    hullpippin_rings_remove(&queuer->turns->rings, queuer->number);
 }
 
 bool turns_begin(struct turns *turns)
 {
     *turns = (struct turns){.now = nanoseconds()};
-    begin_queuer(&turns->all, NULL);
-    list_begin(&turns->costly);
+    list_begin(&turns->accounts);
     for (size_t i = 0; i < TURNS_BUCKETS; i++) {
         list_begin(&turns->by_account[i]);
         list_begin(&turns->by_uid[i]);
         list_begin(&turns->by_pid[i]);
     }
+    if (hullpippin_rings_new(&turns->rings) != HULLPIPPIN_DONE || !begin_queuer(&turns->all, turns, NULL)
+        || !begin_queuer(&turns->costly, turns, NULL))
+        return false;
     turns->ending = client_hold(turns, NO_ACCOUNT, NO_UID, 0);
     return turns->ending != NULL;
 }
@@ -96,6 +178,9 @@ void turns_end(struct turns *turns)
     turns->latest = turns->ending = NULL;
     for (size_t i = 0; i < TURNS_BUCKETS && turns->by_account[i].next; i++)
         free_payers(&turns->by_account[i]);
+    hullpippin_free_rings(&turns->rings);
+    free(turns->numbered);
+    turns->numbered = NULL;
 }
 
 /* --- Who there is. --- */
@@ -117,9 +202,16 @@ static struct payer *new_payer(struct turns *turns, uint64_t account)
     if (!payer)
         return NULL;
     payer->account = account;
-    begin_queuer(&payer->queuer, &turns->all);
-    list_begin(&payer->costly);
     list_begin(&payer->in_costly);
+    if (!begin_queuer(&payer->queuer, turns, &turns->all)) {
+        free(payer);
+        return NULL;
+    }
+    if (!begin_queuer(&payer->costly, turns, &turns->costly)) {
+        end_queuer(&payer->queuer);
+        free(payer);
+        return NULL;
+    }
     list_append(&turns->by_account[account % TURNS_BUCKETS], &payer->in_bucket);
     return payer;
 }
@@ -135,7 +227,8 @@ static struct payer *hold_payer(struct turns *turns, uint64_t account)
 
 static void free_payer(struct payer *payer)
 {
-    list_remove(&payer->queuer.in_ring);
+    end_queuer(&payer->queuer);
+    end_queuer(&payer->costly);
     list_remove(&payer->in_costly);
     list_remove(&payer->in_bucket);
     free(payer);
@@ -177,7 +270,10 @@ static struct user *new_user(struct turns *turns, struct payer *payer, uid_t uid
         return NULL;
     user->payer = payer;
     user->uid = uid;
-    begin_queuer(&user->queuer, &payer->queuer);
+    if (!begin_queuer(&user->queuer, turns, &payer->queuer)) {
+        free(user);
+        return NULL;
+    }
     list_append(&turns->by_uid[uid % TURNS_BUCKETS], &user->in_bucket);
     return user;
 }
@@ -201,7 +297,7 @@ static void release_user(struct user *user)
 {
     if (--user->references)
         return;
-    list_remove(&user->queuer.in_ring);
+    end_queuer(&user->queuer);
     list_remove(&user->in_bucket);
     release_payer(user->payer);
     free(user);
@@ -225,7 +321,11 @@ static struct client *new_client(struct turns *turns, struct user *user, pid_t p
         return NULL;
     client->user = user;
     client->pid = pid;
-    begin_queuer(&client->queuer, &user->queuer);
+    list_begin(&client->watches);
+    if (!begin_queuer(&client->queuer, turns, &user->queuer)) {
+        free(client);
+        return NULL;
+    }
     list_append(&turns->by_pid[(unsigned)pid % TURNS_BUCKETS], &client->in_bucket);
     return client;
 }
@@ -245,11 +345,15 @@ struct client *client_hold(struct turns *turns, uint64_t account, uid_t uid, pid
     return client;
 }
 
+static void leave(struct client *client);
+
 void client_release(struct client *client)
 {
     if (--client->references)
         return;
-    list_remove(&client->queuer.in_ring);
+    if (client->queuer.in)
+        leave(client);
+    end_queuer(&client->queuer);
     list_remove(&client->in_bucket);
     release_user(client->user);
     free(client);
@@ -303,18 +407,19 @@ bool turns_may_make(struct turns *turns, uint64_t price)
     return false;
 }
 
-static struct client *first_costly(const struct payer *payer)
+static struct client *first_costly(const struct queuer *costly)
 {
-    return container_of(payer->costly.next, struct client, queuer.in_ring);
+    return container_of(first_in(costly), struct client, queuer);
 }
 
-/* The client that has the next costly turn; NULL where none may have one yet. */
-static struct client *next_costly(const struct turns *turns)
+/* The account that has the next costly turn: who rests is passed over. NULL where none may have one yet, and all stand as before. */
+static struct payer *next_costly(struct turns *turns)
 {
-    for (const struct list *entry = turns->costly.next; entry != &turns->costly; entry = entry->next) {
-        struct client *client = first_costly(container_of(entry, struct payer, in_costly));
-        if (!due_in(turns, client, turns->now))
-            return client;
+    for (uint32_t i = 0; i < turns->costly.standing; i++) {
+        struct payer *payer = container_of(first_in(&turns->costly), struct payer, costly);
+        if (!due_in(turns, first_costly(&payer->costly), turns->now))
+            return payer;
+        hullpippin_rings_pass(&turns->rings, turns->costly.number);
     }
     return NULL;
 }
@@ -353,31 +458,52 @@ const struct payer *turns_count_recorded(struct turns *turns, uint64_t bytes, co
 
 /* --- Who wants a turn. --- */
 
-/* Puts it into the ring above it, last, and so those above it. Time that went by while it wanted nothing is as good as others' turns. */
-static void enter(const struct turns *turns, struct queuer *queuer)
+/* Puts it into the ring above it, last. Time that went by while it wanted nothing is as good as others' turns. */
+static void enter_one(struct turns *turns, struct queuer *queuer)
 {
-    for (; queuer->above && !queuer->has_turn && list_is_empty(&queuer->in_ring); queuer = queuer->above) {
-        if (queuer->owed) {
-            uint64_t passed = turns->now > queuer->since ? turns->now - queuer->since : 0;
-            queuer->owed -= passed < queuer->owed ? passed : queuer->owed;
-        }
-        list_append(&queuer->above->ring, &queuer->in_ring);
+    if (queuer->owed) {
+        uint64_t passed = turns->now > queuer->since ? turns->now - queuer->since : 0;
+        owe(queuer, passed < queuer->owed ? queuer->owed - passed : 0);
     }
+    stand_in(turns, queuer->above, queuer);
+}
+
+/* .. and so those above it. */
+static void enter(struct turns *turns, struct queuer *queuer)
+{
+    for (; queuer->above && !queuer->has_turn && !queuer->in; queuer = queuer->above)
+        enter_one(turns, queuer);
+}
+
+static void want_costly(struct turns *turns, struct payer *payer)
+{
+    if (payer->costly.in)
+        return;
+    stand_in(turns, &turns->costly, &payer->costly);
+    list_append(&turns->accounts, &payer->in_costly);
+}
+
+static void want_no_costly(struct payer *payer)
+{
+    stand_in_none(&payer->costly);
+    list_remove(&payer->in_costly);
 }
 
 static void enter_client(struct turns *turns, struct client *client)
 {
     struct payer *payer = client->user->payer;
-    if (client->queuer.has_turn || !list_is_empty(&client->queuer.in_ring))
+    if (client->queuer.has_turn || client->queuer.in)
         return;
     client->queuer.from = turns->count;
     if (!is_costly(turns, client)) {
-        enter(turns, &client->queuer);
+        turns->standing++;
+        enter_one(turns, &client->queuer);
+        if (!client->user->queuer.has_turn)
+            enter(turns, &client->user->queuer);
         return;
     }
-    list_append(&payer->costly, &client->queuer.in_ring);
-    if (list_is_empty(&payer->in_costly))
-        list_append(&turns->costly, &payer->in_costly);
+    stand_in(turns, &payer->costly, &client->queuer);
+    want_costly(turns, payer);
 }
 
 /* Who had the latest turn stays out of the rings until it is seen who else has come meanwhile. */
@@ -386,26 +512,27 @@ void turns_want(struct turns *turns, struct watch *watch)
     struct client *client = watch->client;
     if (!list_is_empty(&watch->in_watches))
         return;
-    list_append(&client->queuer.ring, &watch->in_watches);
+    list_append(&client->watches, &watch->in_watches);
     enter_client(turns, client);
 }
 
-/* It is in no list any more for a turn. */
+/* It is in no ring any more for a turn. */
 static void leave(struct client *client)
 {
     struct payer *payer = client->user->payer;
-    list_remove(&client->queuer.in_ring);
-    if (list_is_empty(&payer->costly))
-        list_remove(&payer->in_costly);
-    for (struct queuer *queuer = client->queuer.above; queuer->above && list_is_empty(&queuer->ring); queuer = queuer->above)
-        list_remove(&queuer->in_ring);
+    client->queuer.turns->standing -= client->queuer.in == client->queuer.above;
+    stand_in_none(&client->queuer);
+    if (!payer->costly.standing)
+        want_no_costly(payer);
+    for (struct queuer *queuer = client->queuer.above; queuer->above && !queuer->standing; queuer = queuer->above)
+        stand_in_none(queuer);
 }
 
 void turns_want_none(struct watch *watch)
 {
     struct client *client = watch->client;
     list_remove(&watch->in_watches);
-    if (list_is_empty(&client->queuer.ring))
+    if (list_is_empty(&client->watches))
         leave(client);
 }
 
@@ -428,12 +555,12 @@ static void readmit(struct turns *turns)
     if (!client)
         return;
     client->queuer.has_turn = false;
-    if (!list_is_empty(&client->queuer.ring))
+    if (!list_is_empty(&client->watches))
         enter_client(turns, client);
     for (struct queuer *queuer = client->queuer.above; queuer; queuer = queuer->above) {
         bool was_out = queuer->has_turn;
         queuer->has_turn = false;
-        if (was_out && !list_is_empty(&queuer->ring))
+        if (was_out && queuer->standing)
             enter(turns, queuer);
     }
     client_release(client);
@@ -443,16 +570,16 @@ static void readmit(struct turns *turns)
 uint64_t turns_due_in(const struct turns *turns)
 {
     const struct client *latest = turns->latest;
-    bool latest_wants = latest && !list_is_empty(&latest->queuer.ring), latest_is_costly = latest_wants && is_costly(turns, latest);
-    if (!list_is_empty(&turns->all.ring) || (latest_wants && !latest_is_costly))
+    if (turns->standing)
         return 0;
-    if (latest && (!list_is_empty(&latest->user->queuer.ring) || !list_is_empty(&latest->user->payer->queuer.ring)))
+    bool latest_wants = latest && !list_is_empty(&latest->watches), latest_is_costly = latest_wants && is_costly(turns, latest);
+    if (latest_wants && !latest_is_costly)
         return 0;
-    if (!latest_is_costly && list_is_empty(&turns->costly))
+    if (!latest_is_costly && !turns->costly.standing)
         return NO_TURN;
     uint64_t now = nanoseconds(), least = latest_is_costly ? due_in(turns, latest, now) : NO_TURN;
-    for (const struct list *entry = turns->costly.next; entry != &turns->costly; entry = entry->next) {
-        uint64_t due = due_in(turns, first_costly(container_of(entry, struct payer, in_costly)), now);
+    for (const struct list *entry = turns->accounts.next; entry != &turns->accounts; entry = entry->next) {
+        uint64_t due = due_in(turns, first_costly(&container_of(entry, struct payer, in_costly)->costly), now);
         least = due < least ? due : least;
     }
     return least;
@@ -460,33 +587,31 @@ uint64_t turns_due_in(const struct turns *turns)
 
 /* --- Giving turns. --- */
 
-/* The first that owes nothing. Each look at another takes a turn off what that one owes, so these are as few as its time was long. */
-static struct queuer *first(const struct turns *turns, struct list *ring)
+/* The first that owes nothing, who stands there no more then. Each look at another takes a turn off what that one owes, so these are as few
+   as its time was long. */
+static struct queuer *take_in(struct turns *turns, struct queuer *ring)
 {
-    for (;;) {
-        struct queuer *queuer = container_of(ring->next, struct queuer, in_ring);
-        bool is_alone = ring->next->next == ring;
-        if (is_alone || queuer->owed < TURN_NANOSECONDS) {
-            queuer->owed = 0;
-            return queuer;
-        }
-        queuer->owed -= TURN_NANOSECONDS;
+    while (ring->debtors && ring->standing > 1) {
+        struct queuer *queuer = first_in(ring);
+        if (queuer->owed < TURN_NANOSECONDS)
+            break;
+        owe(queuer, queuer->owed - TURN_NANOSECONDS);
         queuer->from = turns->count;
-        list_remove(&queuer->in_ring);
-        list_append(ring, &queuer->in_ring);
+        hullpippin_rings_pass(&turns->rings, ring->number);
     }
+    struct queuer *queuer = take_first_in(turns, ring);
+    owe_nothing(queuer);
+    queuer->has_turn = true;
+    return queuer;
 }
 
 /* The client whose turn it is among all that have no costly ones. It and those above it are out of the rings then. */
 static struct client *take_first(struct turns *turns)
 {
     struct queuer *queuer = &turns->all;
-    for (int i = 0; i < TURNS_LEVELS; i++) {
-        queuer = first(turns, &queuer->ring);
-        queuer->has_turn = true;
-    }
-    for (struct queuer *it = queuer; it->above; it = it->above)
-        list_remove(&it->in_ring);
+    for (int i = 0; i < TURNS_LEVELS; i++)
+        queuer = take_in(turns, queuer);
+    turns->standing--;
     return container_of(queuer, struct client, queuer);
 }
 
@@ -496,33 +621,33 @@ static struct client *take_of_user(struct turns *turns)
 {
     struct client *latest = turns->latest;
     struct queuer *user = latest ? &latest->user->queuer : NULL;
-    if (!user || !user->has_turn || !list_is_empty(&turns->costly) || !list_is_empty(&turns->all.ring) || !list_is_empty(&user->above->ring))
+    if (!user || !user->has_turn || turns->costly.standing || turns->standing != user->standing)
         return NULL;
-    bool wants = !list_is_empty(&latest->queuer.ring);
-    if (wants ? is_costly(turns, latest) : list_is_empty(&user->ring))
+    bool wants = !list_is_empty(&latest->watches);
+    if (wants ? is_costly(turns, latest) : !user->standing)
         return NULL;
     latest->queuer.has_turn = false;
     if (wants)
         enter_client(turns, latest);
-    struct client *client = container_of(first(turns, &user->ring), struct client, queuer);
-    list_remove(&client->queuer.in_ring);
-    client->queuer.has_turn = true;
+    struct client *client = container_of(take_in(turns, user), struct client, queuer);
+    turns->standing--;
     client->references++;
-    user->owed = user->above->owed = 0;
+    owe_nothing(user);
+    owe_nothing(user->above);
     turns->is_costly = false;
     client_release(latest);
     return client;
 }
 
 /* The same of one that has a costly turn: its account comes last then. */
-static struct client *take_costly(struct turns *turns, struct client *client)
+static struct client *take_costly(struct turns *turns, struct payer *payer)
 {
-    struct payer *payer = client->user->payer;
+    struct client *client = container_of(take_first_in(turns, &payer->costly), struct client, queuer);
     client->queuer.has_turn = true;
-    list_remove(&client->queuer.in_ring);
+    take_first_in(turns, &turns->costly);
     list_remove(&payer->in_costly);
-    if (!list_is_empty(&payer->costly))
-        list_append(&turns->costly, &payer->in_costly);
+    if (payer->costly.standing)
+        want_costly(turns, payer);
     return client;
 }
 
@@ -571,7 +696,7 @@ static void charge(struct client *client, uint64_t now, uint64_t took)
     if (took <= TURN_NANOSECONDS)
         return;
     for (struct queuer *queuer = &client->queuer; queuer->above; queuer = queuer->above)
-        queuer->owed += took - TURN_NANOSECONDS;
+        owe(queuer, queuer->owed + took - TURN_NANOSECONDS);
     if (took <= COSTLY_NANOSECONDS)
         return;
     if (took > DEAR_NANOSECONDS && now - client->was_dear < MEMORY_NANOSECONDS)
@@ -605,8 +730,8 @@ static void end_turn(struct turns *turns, struct client *client)
 static struct client *take(struct turns *turns)
 {
     readmit(turns);
-    bool has_other = !list_is_empty(&turns->all.ring);
-    struct client *costly = has_other && turns->is_costly ? NULL : next_costly(turns);
+    bool has_other = turns->standing;
+    struct payer *costly = has_other && turns->is_costly ? NULL : next_costly(turns);
     if (!costly && !has_other)
         return NULL;
     turns->is_costly = costly;
@@ -620,7 +745,7 @@ void turns_give(struct turns *turns)
     struct client *client = take_of_user(turns);
     if (!client && !(client = take(turns)))
         return;
-    struct watch *watch = container_of(client->queuer.ring.next, struct watch, in_watches);
+    struct watch *watch = container_of(client->watches.next, struct watch, in_watches);
     list_remove(&watch->in_watches);
     begin_turn(turns, client);
     turns->latest = client;
