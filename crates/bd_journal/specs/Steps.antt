@@ -4,7 +4,7 @@ use Rattle.bd_space.specs.declared.step.Entry.{Entry}
 use Rattle.bd_spelling.specs.declared.record.Record.{Record}
 use Rattle.bd_spelling.specs.declared.versions.Version.{Version}
 use Rattle.bd_journal.specs.declared.steps.JournalReader.{JournalReader}
-use Rattle.bd_spelling.specs.Reading.{◌>>=◌, entries_from}
+use Rattle.bd_spelling.specs.Reading.{◌>>=◌, entry_from, entries_from}
 use Rattle.bd_journal.specs.Cut.{behind, whole_from}
 
 -- how many seats the record has, how many entries are still to be read, and from which bytes
@@ -37,6 +37,10 @@ record_left r = option_map (record_of r.seats) (entries_left r)
 abbrev pub with_next : Option Entry → Option (List Entry) → Option (List Entry)
 with_next None left = Some []
 with_next (Some e) left = option_map (λ es. e ∷ es) left
+
+-- the entry stands at the front of what was left, whatever is behind it, and that is left then
+abbrev pub IsNext : Entry → JournalReader → JournalReader → Type 0
+IsNext e old new = entry_from old.version old.seats old.rest.now ≡ Some (e, new.rest.now)
 
 -- ---- a journal that was cut off
 

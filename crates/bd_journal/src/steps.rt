@@ -7,7 +7,7 @@ ghost use Rattle.bd_spelling.specs.Reading.{Fails, Gives};
 ghost use Rattle.bd_journal.specs.Reading.{heading_from};
 ghost use Rattle.bd_journal.specs.Spelling.{IsRecordSeats, Tells};
 ghost use Rattle.bd_journal.specs.Cut.{IsCut};
-ghost use Rattle.bd_journal.specs.Steps.{IsFirstWhole, bytes_left, count_left, cut_left, entries_left, record_left, seats_of, whole_left, with_next, with_whole};
+ghost use Rattle.bd_journal.specs.Steps.{IsFirstWhole, IsNext, bytes_left, count_left, cut_left, entries_left, record_left, seats_of, whole_left, with_next, with_whole};
 ghost use Rattle.bd_spelling.specs.declared.fault.ReadError.TheVariants.{Malformed, Memory};
 
 use crate::heading::heading_at;
@@ -100,6 +100,8 @@ impl<'a> JournalReader<'a> {
     /// memory was refused.
     pub fn next(&mut self, alloc: Global) -> Result<Option<Entry>, ReadError>
         ensures entry { IfOk result (λ e. entries_left self.old ≡ with_next e (entries_left self.new)) }
+        // Also where the bytes spell no journal in the end, each entry that is told stands there.
+        ensures next { IfOk result (λ e. IfSome e (λ x. IsNext x self.old self.new)) }
         ensures error { IfErr result (λ e. Fails e (entries_left self.old)) }
         // Behind an error it stands where it stood.
         ensures stays { IfErr result (λ _. self.new ≡ self.old) }
