@@ -5,6 +5,7 @@ import threading
 import time
 
 from raw_tests import DEVICE, GIVES_BACK
+from rings import asked
 from stage import Failed, Stage, expect, open_files, resident
 from suite import test
 
@@ -82,6 +83,17 @@ def is_flat(memory, seconds):
     return min(late) <= min(early) + KIB
 
 
+def descriptors_at_rest(stage):
+    """How many descriptors the daemon has before the players come: the least of a second, once its device has begun and answers. A daemon
+    listens before that, and beside other work there is time to look in between, when the device's own descriptors aren't there yet."""
+    asked(stage.build, stage, ["--state", DEVICE])
+    found = []
+    for _ in range(SAMPLES):
+        found.append(open_files(stage.daemon.pid))
+        time.sleep(1 / SAMPLES)
+    return min(found)
+
+
 def wait_for_descriptors(stage, before):
     """Until the daemon has no more than before: how many seconds that took. What the killed have left it closes one after the other,
     which takes its time beside other work; what stays for longer stays for good."""
@@ -97,7 +109,7 @@ def soak(build, begin, parts, honest, then=lambda stage: None):
     what is played then."""
     with Stage(build, journal=DEVICE, daemon_environment=GIVES_BACK) as stage:
         begin(stage)
-        before = open_files(stage.daemon.pid)
+        before = descriptors_at_rest(stage)
         players = [Player(stage, choices, longest, honest, seed) for seed, (choices, longest) in enumerate(parts(stage))]
         memory = watched(stage, players)
         kills, seconds = sum(player.kills for player in players), build.soak_seconds
