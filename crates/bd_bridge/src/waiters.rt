@@ -1,6 +1,6 @@
 //! Those who wait, by seat.
 
-ghost use Rattle.std.specs.Prelude.{ℕ, ◌≡◌, ◌==◌, ◌<◌, Some, None, true, if◌then◌else◌, length, OnOk, OnErr, IfOk, IsTrue, option_map};
+ghost use Rattle.std.specs.Prelude.{ℕ, ◌≡◌, ◌==◌, ◌<◌, Some, None, true, false, if◌then◌else◌, length, OnOk, OnErr, IfOk, IfSome, IsTrue, option_map};
 ghost use Rattle.bd_bridge.specs.{Rows.{row_at, AreInGroups, AreBelow}, Homes.{home_at, AreHomes}};
 
 use crate::groups::Groups;
@@ -230,6 +230,7 @@ impl Waiters {
     pub fn stop(&mut self, seat: u32)
         ensures gone { (t : ℕ) → at self.new t ≡ (if t == seat then None else at self.old t) }
         ensures seats { seats_in self.new ≡ seats_in self.old }
+        ensures place { (self.new.homes ≡ self.old.homes) × (self.new.groups ≡ self.old.groups) }
     {
         if (seat as usize) < self.rows.len() {
             self.rows[seat as usize] = None;
@@ -240,6 +241,9 @@ impl Waiters {
     pub fn remove(&mut self, seat: u32)
         ensures gone { (t : ℕ) → at self.new t ≡ (if t == seat then None else at self.old t) }
         ensures seats { seats_in self.new ≡ seats_in self.old }
+        // Nor does it stay in the group that was its home.
+        ensures left { IfSome (home_at self.old.homes.items seat) (λ h. has_seat (seats_of self.new.groups h.process) seat ≡ false) }
+        ensures home { home_at self.new.homes.items seat ≡ None }
     {
         self.stop(seat);
         if let Some(home) = self.home(seat)
