@@ -1,10 +1,11 @@
 //! Playing a script line by line.
 
-ghost use Rattle.std.specs.Prelude.{◌≡◌, ◌++◌, false, All, IfOk, IfErr, IfSome, MatchResult, None, Some};
+ghost use Rattle.std.specs.Prelude.{◌≡◌, ◌++◌, false, All, IfOk, IfErr, IfSome, MatchResult, None, Ok, Some};
 ghost use Rattle.bd_uapi.specs.Limits.{IsSeats};
 ghost use Rattle.bd_space.specs.Histories.{IsHistory};
 ghost use Rattle.bd_spelling.specs.Records.{history_in};
 ghost use Rattle.bd_driver.specs.Together.{new_seats};
+ghost use Rattle.bd_script.specs.Scripts.{read, script_of};
 ghost use Rattle.bd_player.specs.{Playing.{Plays, RunsOn}, Workers.{fault_status}};
 ghost use Rattle.bd_player.specs.declared.faults.ProgramFault.TheVariants.{Journal};
 
@@ -75,6 +76,8 @@ pub fn read_on<R: Read>(
 /// The script that a reader has.
 pub fn script_from<R: Read>(alloc: Global, reader: &mut R) -> Result<Script, ProgramFault>
     ensures seats { IfOk result (λ s. IsSeats s.seats) }
+    // It says what the bytes say.
+    ensures says { IfOk result (λ s. IfSome (R.remaining reader.old) (λ bytes. script_of bytes ≡ Ok (read s))) }
 {
     let bytes = read_on(alloc, &[], reader)?;
     match read_script(alloc, &bytes) {
@@ -89,6 +92,7 @@ pub fn laid<R: Read>(
     alloc: Global,
     script: &mut R,
 ) -> Result<(Driver, Vec<Seat>, Script), ProgramFault>
+    ensures says { IfOk result (λ r. IfSome (R.remaining script.old) (λ bytes. script_of bytes ≡ Ok (read r.2))) }
     ensures table { IfOk result (λ r. All (λ s. s.table ≡ r.0.table) r.1.items) }
     ensures dealt { IfOk result (λ r. (r.0.seats ≡ r.2.seats) × (r.1.items ≡ new_seats r.0.table r.0.seats 0 r.0.seats)) }
 {
