@@ -27,5 +27,6 @@ pub mod FollowingObjects
 pub mod Handed
 pub mod Clearing
 pub mod New
+mod Opening
 pub mod Known
 pub mod Afterwards

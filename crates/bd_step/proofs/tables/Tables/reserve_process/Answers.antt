@@ -1,4 +1,8 @@
+use Rattle.bd_step.proofs.Opening.{window_size}
 use Rattle.bd_step.proofs.tables.Tables.reserve_process.Goals as goal
+
+pub new-requires : goal.new-requires
+new-requires c = window_size c.args.size c.requires
 
 pub returns-clause-stands : goal.returns-clause-stands
 returns-clause-stands c = λ s h.
