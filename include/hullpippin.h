@@ -995,8 +995,7 @@ void hullpippin_free_tickets(hullpippin_tickets *tickets);
  *     if (hullpippin_rings_take(&rings, all, &next)) .. it has its turn, and comes again if it wants another ..
  *
  * Proved is that each stands in one ring at most, and there once; and that, from when one comes into a ring until it has its turn there, each
- * other has one at most, and one more for each time that the one was passed over, whoever comes and goes meanwhile. All calls take a time that
- * doesn't depend on how many there are, and only add takes memory.
+ * other has one at most, and one more for each time that the one was passed over, whoever comes and goes meanwhile. Only add takes memory.
  */
 
 /* Makes rings: no number is anybody's. `rings` is empty, and stays so unless the answer is DONE. Also NO_MEMORY, MISUSE. */
