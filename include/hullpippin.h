@@ -952,6 +952,83 @@ uint32_t hullpippin_lay_out(const uint8_t *data, size_t data_size, const uint8_t
 bool hullpippin_put_fixup(const hullpippin_fixup *fixup, uint8_t *parcel, size_t size, uint64_t base);
 
 /*
+ * A parcel that was laid out goes through the engine as more data than its client sent: data, offsets and buffers, and a trailer, which says how
+ * much of each there is, and whose call it is. Whoever stands between an engine and its processes has a parcel's parts copied, asks which
+ * way it goes, and puts a trailer behind it; and behind the read that gets it asks for the trailer.
+ *
+ *     if (!hullpippin_parcel_parts(&asked, area, objects, &parts)) .. the parcel isn't to be had ..
+ *     .. copy each part from the client's area to one place, and look at the copy alone ..
+ *     if (hullpippin_parcel_way(data, data_size, offsets, offsets_size, most, 0) == HULLPIPPIN_WAY_WRAPPED)
+ *         .. hullpippin_lay_out(..), and then hullpippin_put_trailer(out, room, layout.size, &trailer) ..
+ *     .. hullpippin_live_command(..), and at the other end hullpippin_live_read(..) ..
+ *     if (hullpippin_find_trailer(data, data_size, offsets, offsets_size, &trailer)) .. it was wrapped ..
+ *
+ * Proved is that a trailer is found as it was put, whatever the engine has done to the objects before it; that none is made or taken away by
+ * that; that a client's own parcel which looks as if it had one is wrapped as well; and that what is copied lies within the area.
+ */
+
+/* Where a client says that the parts of its parcel lie in its area, and how many bytes each has. The room for buffers follows the offsets,
+   from a multiple of 8 on. */
+typedef struct {
+    uint64_t data;
+    uint64_t data_size;
+    uint64_t offsets;
+    uint64_t offsets_size;
+    uint64_t buffers_size;
+} hullpippin_asked;
+
+/* A part of a parcel: so many bytes are copied from one place to another. */
+typedef struct {
+    uint64_t from;
+    uint64_t to;
+    uint64_t size;
+} hullpippin_part;
+
+/* All parts of a parcel. Each goes behind the one before, to a multiple of 8. */
+typedef struct {
+    hullpippin_part data;
+    hullpippin_part offsets;
+    hullpippin_part buffers;
+} hullpippin_parts;
+
+/* What a parcel was before it was wrapped, and how it goes. */
+typedef struct {
+    uint64_t data;    /* how many bytes of data its client sent, .. */
+    uint64_t offsets; /* .. of offsets, .. */
+    uint64_t buffers; /* .. and of buffers */
+    uint64_t step;    /* the place of the step that sends it */
+    uint32_t descriptors;
+    uint32_t euid;    /* of who sends it */
+} hullpippin_trailer;
+
+/* How many bytes a trailer has. */
+#define HULLPIPPIN_TRAILER_SIZE UINT32_C(48)
+
+/* Which way a parcel goes. */
+enum {
+    HULLPIPPIN_WAY_PLAIN = 0,   /* as it was sent */
+    HULLPIPPIN_WAY_WRAPPED = 1, /* wrapped: it has PTR, FD or FDA objects, or its uid is told, or it looks as if it were */
+    HULLPIPPIN_WAY_LOST = 2,    /* not at all: it has too many objects that the engine knows */
+};
+
+/* Tells what is to be copied of a client's area of so many bytes, which takes as many bytes at most, for a parcel of so many objects at most.
+   False where it isn't all inside of the area, or has more objects, or a room for buffers that is no multiple of 8; then `parts` stays. */
+bool hullpippin_parcel_parts(const hullpippin_asked *asked, uint32_t area, uint32_t objects, hullpippin_parts *parts);
+
+/* Tells which way a parcel goes, of which the engine may know `most` objects. `tells` isn't 0 where it is sent under another effective uid
+   than the engine tells of its process. */
+uint32_t hullpippin_parcel_way(const uint8_t *data, size_t data_size, const uint8_t *offsets, size_t offsets_size, size_t most,
+                               uint32_t tells);
+
+/* Puts zeros behind the first `laid` bytes, as far as the parcel's room for buffers goes, and the trailer behind these. How much there is then.
+   0 where `room` is too small, or the trailer tells of less than was laid out, or of 4294967296 bytes; and nothing is written. */
+size_t hullpippin_put_trailer(uint8_t *out, size_t room, size_t laid, const hullpippin_trailer *trailer);
+
+/* Tells the trailer of data, as the engine has them, with the offsets of the objects that it knows. False where they have none, and then
+   `trailer` stays. */
+bool hullpippin_find_trailer(const uint8_t *data, size_t data_size, const uint8_t *offsets, size_t offsets_size, hullpippin_trailer *trailer);
+
+/*
  * Tickets: the descriptors that go with parcels beside an engine, which knows of none. Whoever stands between an engine and processes has
  * them on their way here, each by a number of its own, as that of the descriptor itself. They are named by the place of the step that sends
  * their parcel: how many steps there were before it (hullpippin_live_len), which is `from` of its answer, what a look tells of a buffer, and

@@ -1,5 +1,5 @@
 /* SPDX-License-Identifier: Apache-2.0 OR MIT */
-/* Parcels with PTR, FD and FDA objects are laid out, and come to their place (include/hullpippin.h). What is wanted was worked out by hand.
+/* Parcels with PTR, FD and FDA objects are laid out, wrapped, and come to their place (include/hullpippin.h). What is wanted was worked out by hand.
    Complains where it is otherwise, and prints nothing else. */
 #include "asking.h"
 
@@ -145,10 +145,65 @@ static bool is_no_request(void)
     return is(status == HULLPIPPIN_NO_SUCH_REQUEST && layout.size == 7, "so many descriptors come");
 }
 
+/* What is laid out takes 240 bytes, and zeros follow to the end of the room, and the trailer. A receiver finds it, whatever came of the known
+   object; but not where an object reaches into it. */
+static bool is_wrapped(const struct parcel *begun)
+{
+    struct parcel parcel = *begun;
+    const hullpippin_trailer sent = {parcel.data_size, parcel.offsets_size, 40, UINT64_C(0x123456789), 3, 1000};
+    hullpippin_trailer found = {0};
+    memset(parcel.out + 240, 7, 8);
+    if (hullpippin_put_trailer(parcel.out, 295, parcel.layout.size, &sent) || hullpippin_put_trailer(parcel.out, sizeof parcel.out, 249, &sent))
+        return fails("a trailer has room that isn't there");
+    size_t size = hullpippin_put_trailer(parcel.out, sizeof parcel.out, parcel.layout.size, &sent);
+    if (!is(size == 248 + HULLPIPPIN_TRAILER_SIZE && !get64(parcel.out + 240), "a parcel is wrapped otherwise"))
+        return false;
+    memset(parcel.out + parcel.known[0], 7, FD_SIZE);
+    if (!hullpippin_find_trailer(parcel.out, size, (const uint8_t *)parcel.known, 8, &found))
+        return fails("a trailer isn't found");
+    uint64_t inside = 248 + HULLPIPPIN_TRAILER_SIZE - FD_SIZE;
+    return is(!memcmp(&found, &sent, sizeof sent), "another trailer is found")
+           && is(!hullpippin_find_trailer(parcel.out, size, (const uint8_t *)&inside, 8, &found), "an object is taken for a trailer")
+           && is(!hullpippin_find_trailer(parcel.out, size - 1, NULL, 0, &found), "a trailer is found where none ends");
+}
+
+static bool goes(const struct parcel *parcel, size_t most, uint32_t tells, uint32_t way)
+{
+    return is(hullpippin_parcel_way(parcel->data, parcel->data_size, parcel->offsets, parcel->offsets_size, most, tells) == way, "another way");
+}
+
+/* One known object, among others and alone; and a parcel that ends as if it were wrapped. */
+static bool goes_its_way(void)
+{
+    struct parcel mixed = begun(), plain = {0};
+    add(&plain, HULLPIPPIN_TYPE_BINDER, FD_SIZE);
+    if (!goes(&mixed, 1, 0, HULLPIPPIN_WAY_WRAPPED) || !goes(&mixed, 0, 0, HULLPIPPIN_WAY_LOST) || !goes(&plain, 1, 0, HULLPIPPIN_WAY_PLAIN)
+        || !goes(&plain, 1, 1, HULLPIPPIN_WAY_WRAPPED))
+        return false;
+    memcpy(plain.data + FD_SIZE + HULLPIPPIN_TRAILER_SIZE - 8, "trailer", 8);
+    plain.data_size += HULLPIPPIN_TRAILER_SIZE;
+    return goes(&plain, 1, 0, HULLPIPPIN_WAY_WRAPPED);
+}
+
+/* 10 bytes of data from 3 on, two offsets at 16, and 8 bytes of buffers behind them at 32. */
+static bool is_copied(void)
+{
+    const hullpippin_asked asked = {3, 10, 16, 16, 8}, odd = {3, 10, 16, 16, 4}, far = {UINT64_MAX, 10, 16, 16, 8};
+    hullpippin_parts parts = {0};
+    if (!hullpippin_parcel_parts(&asked, 40, 2, &parts))
+        return fails("a parcel isn't to be had");
+    return is(parts.data.from == 3 && !parts.data.to && parts.data.size == 10 && parts.offsets.from == 16 && parts.offsets.to == 16
+                  && parts.buffers.from == 32 && parts.buffers.to == 32 && parts.buffers.size == 8, "it is copied otherwise")
+           && is(!hullpippin_parcel_parts(&asked, 39, 2, &parts) && !hullpippin_parcel_parts(&asked, 40, 1, &parts)
+                     && !hullpippin_parcel_parts(&odd, 40, 2, &parts) && !hullpippin_parcel_parts(&far, 40, 2, &parts),
+                 "what isn't inside of the area is copied");
+}
+
 int main(void)
 {
     struct parcel parcel = begun();
-    bool done = is_planned(&parcel) && lands(&parcel) && refuses() && is_told_without_room() && is_no_request();
+    bool done = is_planned(&parcel) && lands(&parcel) && refuses() && is_told_without_room() && is_no_request() && is_wrapped(&parcel)
+                && goes_its_way() && is_copied();
     if (!done)
         fprintf(stderr, "layouts: %s\n", complaint);
     return !done;

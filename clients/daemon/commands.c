@@ -32,8 +32,7 @@ struct free_command {
 struct run {
     struct thread *thread;
     struct engine *engine;
-    int *fds;
-    uint32_t fd_count;
+    struct hand *hand; /* .. with the descriptors that came with it */
 };
 
 /* What no errno is: the command is to be run in another turn. */
@@ -149,13 +148,14 @@ static int run_call(struct run *run, uint32_t code, const uint8_t *payload)
     read_record(&record, code, payload);
     if (!is_reply && calls_own_manager(run, &record.transaction_data))
         record.transaction_data.target.handle = NO_HANDLE;
-    parcel.may_have_descriptors = run->fd_count && target_takes_descriptors(run->thread, is_reply, record.transaction_data.target.handle);
+    uint32_t left = run->hand->count - run->hand->taken;
+    parcel.offered = left && target_takes_descriptors(run->thread, is_reply, record.transaction_data.target.handle) ? left : 0;
     struct target target = target_of(run->thread, is_reply, record.transaction_data.target.handle);
     bool may = may_fit(&target, &record, is_reply);
     if (may && !turns_may_make(&run->engine->loop.turns, price_of(&record)))
         return PUT_OFF;
     if (may)
-        parcel_fetch(&parcel, run->thread, &record, run->fds, run->fd_count);
+        parcel_fetch(&parcel, run->thread, &record, run->hand);
     else
         parcel.is_lost = true;
     run->engine->copied += parcel.data_size + parcel.offsets_size;
@@ -358,9 +358,9 @@ static bool is_to_stop(const struct run *run, const uint8_t *rest, uint32_t left
     return turns_is_over(turns) && (code != BC_FREE_BUFFER || turns_has_made_steps(turns));
 }
 
-int commands_run(struct thread *thread, const uint8_t *stream, uint32_t size, int *fds, uint32_t fd_count)
+int commands_run(struct thread *thread, const uint8_t *stream, uint32_t size, struct hand *hand)
 {
-    struct run run = {thread, thread->process->engine, fds, fd_count};
+    struct run run = {thread, thread->process->engine, hand};
     struct page_answer *answer = &thread->answer;
     while (answer->consumed < size) {
         const uint8_t *command = stream + answer->consumed;

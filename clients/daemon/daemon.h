@@ -867,11 +867,16 @@ struct landing {
     bool is_wide[DESCRIPTORS_MAX]; /* the number fills 8 bytes: an FD object's, not an FDA object's */
 };
 
+/* The descriptors that came with a request, of which parcels take the first ones. */
+struct hand {
+    uint32_t count, taken;
+    int fds[DESCRIPTORS_MAX];
+};
+
 /* A write that takes more than one turn. */
 struct writing {
     struct page_request request;
-    uint32_t fd_count;
-    int fds[DESCRIPTORS_MAX];
+    struct hand hand;
     uint8_t stream[PAGE_STREAM];
 };
 
@@ -964,9 +969,9 @@ void page_copy(void *to, const void *from, size_t size);
 
 /* --- commands.c: the write of a BINDER_WRITE_READ. --- */
 
-/* Runs the commands, and tells in the thread's answer how far that came. The descriptors stay the caller's, but for
-   those that a parcel has taken, which are -1 then. */
-int commands_run(struct thread *thread, const uint8_t *stream, uint32_t size, int *fds, uint32_t fd_count);
+/* Runs the commands, and tells in the thread's answer how far that came. The descriptors stay the caller's, but for those that a parcel has
+   taken. */
+int commands_run(struct thread *thread, const uint8_t *stream, uint32_t size, struct hand *hand);
 /* BC_FREE_BUFFER with a client's pointer. */
 int command_free(struct thread *thread, uint64_t pointer);
 
@@ -979,7 +984,7 @@ struct parcel {
     uint64_t data_size, offsets_size;
     uid_t euid;      /* the caller's; it is the first to be set */
     bool tells_euid; /* .. which isn't what the engine tells */
-    bool may_have_descriptors; /* this one as well: its receiver takes them */
+    uint32_t offered; /* descriptors that came and may go with it */
     bool is_wrapped; /* it has a trailer */
     uint64_t step;   /* .. and this step sends it */
     struct fixups fixups;
@@ -990,9 +995,8 @@ struct parcel {
 
 /* An empty one, of nobody. */
 void parcel_begin(struct parcel *parcel);
-/* Fetches a parcel from the page; descriptors that it has are taken from `fds`. */
-void parcel_fetch(struct parcel *parcel, struct thread *thread, const struct binder_transaction_data_sg *record, int *fds,
-                  uint32_t fd_count);
+/* Fetches a parcel from the page; descriptors that it has are taken from the hand. */
+void parcel_fetch(struct parcel *parcel, struct thread *thread, const struct binder_transaction_data_sg *record, struct hand *hand);
 /* The engine gets nothing of it, for which it refuses the command. */
 void parcel_lose(struct parcel *parcel);
 /* Closes the descriptors of one that the engine has refused. */

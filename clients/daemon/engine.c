@@ -159,15 +159,6 @@ static void tell_step(struct engine *engine, const struct step *step)
         ring_put(engine, step, time);
 }
 
-/* A buffer ends by being given back, and with a thread or a process. */
-static bool may_end_buffers(const struct step *step)
-{
-    uint32_t code = 0;
-    if (step->kind == RING_COMMAND)
-        memcpy(&code, step->command, sizeof code);
-    return code == BC_FREE_BUFFER || step->kind == RING_EXIT_THREAD || step->kind == RING_EXIT_PROCESS;
-}
-
 /* What a step's status is for the client; a step that was made goes to the journal and the ring. A history is full by a handle behind the
    last of its process: no device makes 2^64 steps. */
 static int stepped(struct engine *engine, const struct step *step, uint32_t status)
@@ -176,10 +167,17 @@ static int stepped(struct engine *engine, const struct step *step, uint32_t stat
         return status == HULLPIPPIN_NO_MEMORY || status == HULLPIPPIN_HISTORY_FULL ? ENOMEM : EINVAL; /* NO_COMMAND */
     tell_step(engine, step);
     count_step(engine);
-    if (may_end_buffers(step))
-        sent_see_ended(engine);
     engine->is_left = true; /* the bridge may have somebody to look at */
     return 0;
+}
+
+/* A buffer ends by being given back, which is a command, and with a thread or a process. Which ones have, the library says. */
+static int stepped_to_end(struct engine *engine, const struct step *step, uint32_t status)
+{
+    int error = stepped(engine, step, status);
+    if (!error)
+        sent_see_ended(engine);
+    return error;
 }
 
 int engine_open(struct engine *engine, uint32_t seat, uint32_t pid, uint32_t euid, uint32_t window)
@@ -216,7 +214,7 @@ int engine_set_spam(struct engine *engine, uint32_t seat, bool on)
 int engine_exit_thread(struct engine *engine, uint32_t seat)
 {
     const struct step step = {.kind = RING_EXIT_THREAD, .seat = seat};
-    int error = stepped(engine, &step, hullpippin_live_exit_thread(&engine->live, seat, &engine->answer));
+    int error = stepped_to_end(engine, &step, hullpippin_live_exit_thread(&engine->live, seat, &engine->answer));
     if (!error && engine->lent[seat])
         engine->lent[seat]->process->objects_let_go++;
     return error;
@@ -225,7 +223,7 @@ int engine_exit_thread(struct engine *engine, uint32_t seat)
 int engine_exit_process(struct engine *engine, uint32_t seat)
 {
     const struct step step = {.kind = RING_EXIT_PROCESS, .seat = seat};
-    return stepped(engine, &step, hullpippin_live_exit_process(&engine->live, seat, &engine->answer));
+    return stepped_to_end(engine, &step, hullpippin_live_exit_process(&engine->live, seat, &engine->answer));
 }
 
 /* Fetches what was read. A page has room for no more than there is for it here. */
@@ -266,8 +264,8 @@ int engine_look(struct engine *engine, hullpippin_signal *signal)
 int engine_command(struct engine *engine, uint32_t seat, const void *command, size_t size)
 {
     const struct step step = {.kind = RING_COMMAND, .seat = seat, .command = command};
-    return stepped(engine, &step, hullpippin_live_command(&engine->live, seat, command, size, HULLPIPPIN_NOWHERE, 0,
-                                                         HULLPIPPIN_NOWHERE, 0, &engine->answer));
+    return stepped_to_end(engine, &step, hullpippin_live_command(&engine->live, seat, command, size, HULLPIPPIN_NOWHERE, 0,
+                                                                HULLPIPPIN_NOWHERE, 0, &engine->answer));
 }
 
 int engine_call(struct engine *engine, uint32_t seat, const struct target *target, const void *command, size_t size, const uint8_t *data,

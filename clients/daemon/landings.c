@@ -10,7 +10,7 @@
 
 /* The parcel that the engine's latest read got, on the engine's bench: false where it has no trailer. Where no parcel on its way has one,
    large ones needn't come there. */
-static bool unwrap(struct engine *engine, struct objects *objects, struct trailer *trailer)
+static bool unwrap(struct engine *engine, hullpippin_trailer *trailer)
 {
     uint64_t size = engine->answer.data, offsets_size = engine->answer.offsets;
     struct workbench *bench = engine->bench;
@@ -18,10 +18,7 @@ static bool unwrap(struct engine *engine, struct objects *objects, struct traile
         return false;
     hullpippin_live_bytes(&engine->live, HULLPIPPIN_DATA, bench->bytes, size);
     hullpippin_live_bytes(&engine->live, HULLPIPPIN_OFFSETS, (uint8_t *)bench->known, offsets_size);
-    if (!objects_trailer(bench->bytes, size, (const uint8_t *)bench->known, offsets_size, trailer))
-        return false;
-    *objects = (struct objects){bench->bytes, trailer->data_size, trailer->offsets_size, trailer->extra_size};
-    return true;
+    return hullpippin_find_trailer(bench->bytes, size, (const uint8_t *)bench->known, offsets_size, trailer);
 }
 
 /* Puts so many of the next descriptors on the landing, which lie at a place of the window. */
@@ -60,44 +57,42 @@ static void deliver_plain(struct thread *thread, uint64_t place, uint64_t offset
 }
 
 /* Of the others what the client sent goes there, and zeros between its parts. */
-static void deliver_wrapped(struct thread *thread, struct binder_transaction_data *record, uint64_t place, const struct objects *objects,
-                            const struct trailer *trailer)
+static void deliver_wrapped(struct thread *thread, struct binder_transaction_data *record, uint64_t place, const hullpippin_trailer *trailer)
 {
     struct engine *engine = thread->process->engine;
     struct window *window = &thread->process->window;
-    const size_t size = engine->answer.data - sizeof *trailer;
-    const uint64_t step = (uint64_t)trailer->step_high << 32 | trailer->step;
-    const struct fixups fixups = sent_unwrap(&engine->sent, step);
-    struct landing *landing = trailer->descriptor_count ? thread_landing(thread) : NULL;
+    uint8_t *bytes = engine->bench->bytes;
+    const size_t size = engine->answer.data - HULLPIPPIN_TRAILER_SIZE;
+    const struct fixups fixups = sent_unwrap(&engine->sent, trailer->step);
+    struct landing *landing = trailer->descriptors ? thread_landing(thread) : NULL;
     record->sender_euid = trailer->euid;
     if (landing)
-        *landing = (struct landing){.is_on_way = true, .step = step, .parcel = record->data.ptr.buffer};
-    put_right(&fixups, landing, objects->bytes, size, place, window->base);
+        *landing = (struct landing){.is_on_way = true, .step = trailer->step, .parcel = record->data.ptr.buffer};
+    put_right(&fixups, landing, bytes, size, place, window->base);
     free(fixups.all);
     if (!landing)
-        tickets_end(engine, step);
-    memcpy(window->at + place, objects->bytes, size);
-    record->data_size = trailer->data_size;
-    record->offsets_size = trailer->offsets_size;
-    record->data.ptr.offsets = record->data.ptr.buffer + round8(trailer->data_size);
+        tickets_end(engine, trailer->step);
+    memcpy(window->at + place, bytes, size);
+    record->data_size = trailer->data;
+    record->offsets_size = trailer->offsets;
+    record->data.ptr.offsets = record->data.ptr.buffer + round8(trailer->data);
 }
 
 void parcel_deliver(struct thread *thread, struct binder_transaction_data *record)
 {
     struct process *process = thread->process;
     uint64_t place = record->data.ptr.buffer - WINDOW_BASE, offsets_place = record->data.ptr.offsets - WINDOW_BASE;
-    struct objects objects;
-    struct trailer trailer;
+    hullpippin_trailer trailer;
     if (thread->landing)
         thread_landing(thread);
     record->data.ptr.buffer = process->window.base + place;
     record->data.ptr.offsets = process->window.base + offsets_place;
-    bool is_wrapped = unwrap(process->engine, &objects, &trailer);
+    bool is_wrapped = unwrap(process->engine, &trailer);
     process_note_handed(process, place, is_wrapped || process->engine->answer.offsets ? HANDED_WITH_OBJECTS : HANDED);
     if (record->flags & TF_CLEAR_BUF)
         process_note_secret(process, place, round8(process->engine->answer.data) + process->engine->answer.offsets);
     if (is_wrapped)
-        deliver_wrapped(thread, record, place, &objects, &trailer);
+        deliver_wrapped(thread, record, place, &trailer);
     else
         deliver_plain(thread, place, offsets_place);
 }

@@ -63,28 +63,32 @@ void page_interrupt(struct thread *thread, int error)
 }
 
 /* Fetches the descriptors that come with a request. */
-static int fetch_descriptors(struct thread *thread, uint32_t wanted, int fds[DESCRIPTORS_MAX], uint32_t *count)
+static int fetch_descriptors(struct thread *thread, uint32_t wanted, struct hand *hand)
 {
     uint32_t told;
-    *count = 0;
+    hand->count = hand->taken = 0;
     if (!wanted)
         return 0;
-    int received = packet_receive(thread->link.fd, &told, sizeof told, fds, DESCRIPTORS_MAX, count, MSG_DONTWAIT);
-    if (received == 1 && *count == wanted)
+    int received = packet_receive(thread->link.fd, &told, sizeof told, hand->fds, DESCRIPTORS_MAX, &hand->count, MSG_DONTWAIT);
+    if (received == 1 && hand->count == wanted)
         return 0;
     if (received < 0 && errno == EMFILE)
         return EMFILE;
-    descriptors_close(fds, *count);
+    descriptors_close(hand->fds, hand->count);
     return EINVAL;
+}
+
+static void close_left(struct hand *hand)
+{
+    descriptors_close(hand->fds + hand->taken, hand->count - hand->taken);
 }
 
 /* Closes the descriptors that came with a request that isn't run: else the thread's next request would get them. */
 static void drop_descriptors(struct thread *thread, uint32_t wanted)
 {
-    int fds[DESCRIPTORS_MAX];
-    uint32_t count;
-    if (!fetch_descriptors(thread, wanted, fds, &count))
-        descriptors_close(fds, count);
+    struct hand hand;
+    if (!fetch_descriptors(thread, wanted, &hand))
+        close_left(&hand);
 }
 
 void page_refuse(struct thread *thread, int error)
@@ -114,7 +118,7 @@ static int put_off(struct thread *thread, struct writing *writing)
     if (!thread->writing) {
         thread->writing = malloc(sizeof *writing);
         if (!thread->writing) {
-            descriptors_close(writing->fds, writing->fd_count);
+            close_left(&writing->hand);
             return ENOMEM;
         }
         *thread->writing = *writing;
@@ -125,7 +129,7 @@ static int put_off(struct thread *thread, struct writing *writing)
 void page_forget(struct thread *thread)
 {
     if (thread->writing)
-        descriptors_close(thread->writing->fds, thread->writing->fd_count);
+        close_left(&thread->writing->hand);
     free(thread->writing);
     thread->writing = NULL;
 }
@@ -134,10 +138,10 @@ void page_forget(struct thread *thread)
 static int write_on(struct thread *thread, struct writing *writing)
 {
     const struct page_request *request = &writing->request;
-    int error = commands_run(thread, writing->stream, request->stream_size, writing->fds, writing->fd_count);
+    int error = commands_run(thread, writing->stream, request->stream_size, &writing->hand);
     if (!error && !thread->answer.refused && thread->answer.consumed < request->stream_size)
         return put_off(thread, writing);
-    descriptors_close(writing->fds, writing->fd_count);
+    close_left(&writing->hand);
     if (!error && request->room) {
         thread->is_waiting = true;
         thread->room = request->room;
@@ -151,7 +155,7 @@ static int write_read(struct thread *thread, const struct page_request *request)
     if (request->stream_size > PAGE_STREAM || request->room > PAGE_RETURNS)
         return EINVAL;
     writing.request = *request;
-    int error = fetch_descriptors(thread, request->descriptors, writing.fds, &writing.fd_count);
+    int error = fetch_descriptors(thread, request->descriptors, &writing.hand);
     if (error)
         return error;
     if (request->stream_size)

@@ -233,7 +233,7 @@ static bool wants_looper(const struct thread *thread)
     return true;
 }
 
-/* Sends the descriptors that belong to what is handed over. */
+/* Sends the descriptors that the library has for what is handed over: as many as there are places for their numbers. */
 static void send_landing(struct thread *thread)
 {
     struct landing *landing = thread->landing;
@@ -247,7 +247,7 @@ static void send_landing(struct thread *thread)
     thread->page->parcel = landing->parcel;
     for (uint32_t i = 0; i < landing->count; i++)
         thread->page->is_of_array[i] = !landing->is_wide[i];
-    if (count == landing->count && flight_send(thread, fds, count))
+    if (flight_send(thread, fds, count))
         thread->answer.descriptors = count;
     tickets_close(account, fds, count);
 }

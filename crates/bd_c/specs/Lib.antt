@@ -28,3 +28,4 @@ pub mod SpaceTold
 pub mod Texts
 pub mod Tickets
 pub mod Turns
+pub mod Wrappings

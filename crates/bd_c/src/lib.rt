@@ -50,3 +50,5 @@ mod texts;
 mod ticket_calls;
 mod tickets;
 mod walks;
+mod wrapping_calls;
+mod wrappings;

@@ -916,6 +916,77 @@ pub const HULLPIPPIN_FIXUP_DESCRIPTOR: u32 = 2;
 /// Those of an FDA object's, 4 bytes each.
 pub const HULLPIPPIN_FIXUP_DESCRIPTORS: u32 = 3;
 
+/// Where a client says that the parts of its parcel lie in its area, and how many bytes each has. The room for buffers
+/// follows the offsets, from a multiple of 8 on.
+#[repr(C)]
+#[derive(Clone, Copy, Debug, Default, PartialEq, Eq)]
+pub struct hullpippin_asked {
+    /// What the library keeps.
+    pub data: u64,
+    /// What the library keeps.
+    pub data_size: u64,
+    /// What the library keeps.
+    pub offsets: u64,
+    /// What the library keeps.
+    pub offsets_size: u64,
+    /// What the library keeps.
+    pub buffers_size: u64,
+}
+
+/// A part of a parcel: so many bytes are copied from one place to another.
+#[repr(C)]
+#[derive(Clone, Copy, Debug, Default, PartialEq, Eq)]
+pub struct hullpippin_part {
+    /// What the library keeps.
+    pub from: u64,
+    /// What the library keeps.
+    pub to: u64,
+    /// What the library keeps.
+    pub size: u64,
+}
+
+/// All parts of a parcel. Each goes behind the one before, to a multiple of 8.
+#[repr(C)]
+#[derive(Clone, Copy, Debug, Default, PartialEq, Eq)]
+pub struct hullpippin_parts {
+    /// What the library keeps.
+    pub data: hullpippin_part,
+    /// What the library keeps.
+    pub offsets: hullpippin_part,
+    /// What the library keeps.
+    pub buffers: hullpippin_part,
+}
+
+/// What a parcel was before it was wrapped, and how it goes.
+#[repr(C)]
+#[derive(Clone, Copy, Debug, Default, PartialEq, Eq)]
+pub struct hullpippin_trailer {
+    /// How many bytes of data its client sent, ..
+    pub data: u64,
+    /// .. of offsets, ..
+    pub offsets: u64,
+    /// .. and of buffers.
+    pub buffers: u64,
+    /// The place of the step that sends it.
+    pub step: u64,
+    /// What the library keeps.
+    pub descriptors: u32,
+    /// Of who sends it.
+    pub euid: u32,
+}
+
+/// How many bytes a trailer has.
+pub const HULLPIPPIN_TRAILER_SIZE: u32 = 48;
+
+/// As it was sent.
+pub const HULLPIPPIN_WAY_PLAIN: u32 = 0;
+
+/// Wrapped: it has PTR, FD or FDA objects, or its uid is told, or it looks as if it were.
+pub const HULLPIPPIN_WAY_WRAPPED: u32 = 1;
+
+/// Not at all: it has too many objects that the engine knows.
+pub const HULLPIPPIN_WAY_LOST: u32 = 2;
+
 extern "C" {
     /// The version of the library that you link, as HULLPIPPIN_VERSION has the header's.
     pub fn hullpippin_version() -> u32;
@@ -1371,6 +1442,42 @@ extern "C" {
     /// at `base`: an address, or -1 for each descriptor. False where it is none, or doesn't lie within the parcel, and
     /// then nothing is written.
     pub fn hullpippin_put_fixup(fixup: *const hullpippin_fixup, parcel: *mut u8, size: usize, base: u64) -> bool;
+
+    /// Tells what is to be copied of a client's area of so many bytes, which takes as many bytes at most, for a parcel
+    /// of so many objects at most. False where it isn't all inside of the area, or has more objects, or a room for
+    /// buffers that is no multiple of 8; then `parts` stays.
+    pub fn hullpippin_parcel_parts(
+        asked: *const hullpippin_asked,
+        area: u32,
+        objects: u32,
+        parts: *mut hullpippin_parts,
+    ) -> bool;
+
+    /// Tells which way a parcel goes, of which the engine may know `most` objects. `tells` isn't 0 where it is sent
+    /// under another effective uid than the engine tells of its process.
+    pub fn hullpippin_parcel_way(
+        data: *const u8,
+        data_size: usize,
+        offsets: *const u8,
+        offsets_size: usize,
+        most: usize,
+        tells: u32,
+    ) -> u32;
+
+    /// Puts zeros behind the first `laid` bytes, as far as the parcel's room for buffers goes, and the trailer behind
+    /// these. How much there is then. 0 where `room` is too small, or the trailer tells of less than was laid out, or
+    /// of 4294967296 bytes; and nothing is written.
+    pub fn hullpippin_put_trailer(out: *mut u8, room: usize, laid: usize, trailer: *const hullpippin_trailer) -> usize;
+
+    /// Tells the trailer of data, as the engine has them, with the offsets of the objects that it knows. False where
+    /// they have none, and then `trailer` stays.
+    pub fn hullpippin_find_trailer(
+        data: *const u8,
+        data_size: usize,
+        offsets: *const u8,
+        offsets_size: usize,
+        trailer: *mut hullpippin_trailer,
+    ) -> bool;
 
     /// Makes tickets: none is on its way. `tickets` is empty, and stays so unless the answer is DONE. Also NO_MEMORY,
     /// MISUSE.

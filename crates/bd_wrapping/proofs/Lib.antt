@@ -1,0 +1,4 @@
+pub mod Walks
+pub mod Founds
+pub mod Writes
+pub mod Copies

@@ -1,0 +1,3 @@
+pub mod Trailers
+pub mod Ways
+pub mod Areas

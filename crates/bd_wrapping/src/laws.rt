@@ -1,0 +1,18 @@
+//! What holds of each parcel that goes through an engine.
+
+ghost use Rattle.bd_wrapping.specs.{Trailers.{TrailersAreFoundAgain, TrailersStandBehindAllObjects}, Areas.{PartsAreCopied}};
+
+/// A trailer is found as it was put, whatever the engine does to the objects before it.
+pub fn trailers_are_found_again()
+    ensures { TrailersAreFoundAgain }
+{}
+
+/// Nothing that the engine does to objects makes a trailer, or takes one away.
+pub fn trailers_stand_behind_all_objects()
+    ensures { TrailersStandBehindAllObjects }
+{}
+
+/// What is copied of a client's area lies within it, and each part goes to bytes of its own.
+pub fn parts_are_copied()
+    ensures { PartsAreCopied }
+{}
