@@ -1062,6 +1062,84 @@ bool hullpippin_tickets_some_step(hullpippin_tickets *tickets, uint64_t *step);
 void hullpippin_free_tickets(hullpippin_tickets *tickets);
 
 /*
+ * Readers: what a thread's calls have left, and what of that it has read and was told. Whoever stands between an engine and threads reads for them
+ * before it tells them, since the completion of a call waits for what comes with the reply, and since a thread may have little room. A reader
+ * is the caller's own memory, and begins with 0 in each field; the caller tells what happens, and asks what is so.
+ *
+ *     hullpippin_reader_sent(&reader, HULLPIPPIN_SENT_CALL, answer.stop, answer.number);    .. a command was run ..
+ *     hullpippin_reader_read(&reader, code, flags & HULLPIPPIN_TF_ONE_WAY);                 .. a return was read ..
+ *     hullpippin_reader_facts(&reader, &pending, &facts);
+ *     if (facts.is_whole)
+ *         .. the thread's read is answered: hullpippin_reader_told for each return of that, and hullpippin_reader_delivered ..
+ *
+ * Proved is that who has read what can't wait has something to be answered with, whatever it reads after that; and that what was refused of a
+ * thread stays so until the thread is told a completion or a refusal.
+ */
+
+/* A thread that reads, and what it has yet to read. */
+typedef struct {
+    uint32_t serving;     /* calls that it has to answer */
+    uint32_t calling;     /* calls whose end it hasn't read */
+    uint32_t refusals;    /* refusals that it hasn't read */
+    uint32_t completions; /* two-way calls of which it hasn't read that they were taken */
+    uint32_t clearings;   /* death notifications of which it hasn't read that they were taken back, at most */
+    uint32_t untold;      /* calls and replies of which it wasn't told that they were taken */
+    uint32_t refusal;     /* what was refused and isn't told: HULLPIPPIN_REFUSAL_NONE .. */
+    uint32_t is_prompt;   /* not 0: it has read, or will, more than what can wait for a reply */
+    uint32_t is_behind;   /* not 0: others have handed over some of it, and what the engine has comes with that */
+    uint32_t is_full;     /* not 0: its read has no room for a return that is there */
+} hullpippin_reader;
+
+/* What was refused of a thread and isn't told to it. */
+enum {
+    HULLPIPPIN_REFUSAL_NONE = 0,
+    HULLPIPPIN_REFUSAL_CALL = 1,  /* a call, or a reply to nobody: BR_FAILED_REPLY or BR_DEAD_REPLY tells it */
+    HULLPIPPIN_REFUSAL_REPLY = 2, /* any other reply: the last BR_TRANSACTION_COMPLETE tells it */
+};
+
+/* What a thread sends. */
+enum {
+    HULLPIPPIN_SENT_CALL = 0,
+    HULLPIPPIN_SENT_ONE_WAY = 1,
+    HULLPIPPIN_SENT_REPLY = 2,
+};
+
+/* What a thread has read and wasn't told, and its read. */
+typedef struct {
+    uint32_t size;       /* how many bytes of returns .. */
+    uint32_t completed;  /* .. and how many BR_TRANSACTION_COMPLETE and BR_ONEWAY_SPAM_SUSPECT among them */
+    uint32_t room;       /* so many bytes its read has room for */
+    uint32_t is_looping; /* not 0: it is in the loop */
+} hullpippin_pending;
+
+/* What is so of a thread that reads. */
+typedef struct {
+    bool is_there; /* its read has something to be answered with .. */
+    bool is_whole; /* .. and all of its own that is told together */
+    bool is_left;  /* the engine has some of what its calls and replies have left */
+    bool defers;   /* it is in a call of its own, and what it has can wait for the reply */
+    bool fetches;  /* it has made such a call, and hasn't read that this was taken */
+    bool is_idle;  /* it is in the loop, and in no call: it gets what comes to its process */
+    bool has_room; /* its read has room for a return, or may not come back without one */
+    uint32_t limit; /* of the engine's read for it */
+} hullpippin_facts;
+
+/* A command of the thread was run, HULLPIPPIN_SENT_CALL .., with `stop` and `number` of its answer. */
+void hullpippin_reader_sent(hullpippin_reader *reader, uint32_t kind, uint32_t stop, uint32_t number);
+
+/* The thread has read a return of this code. `is_one_way` isn't 0 where it is a one-way call. */
+void hullpippin_reader_read(hullpippin_reader *reader, uint32_t code, uint32_t is_one_way);
+
+/* The thread is told a return of this code. Whether it is told by that of all that it has sent. */
+bool hullpippin_reader_told(hullpippin_reader *reader, uint32_t code);
+
+/* A read of the thread is answered. `is_left` isn't 0 where it has read more than it is told, `is_ready` where the engine has more for it. */
+void hullpippin_reader_delivered(hullpippin_reader *reader, uint32_t is_left, uint32_t is_ready);
+
+/* Tells what is so of the thread. */
+void hullpippin_reader_facts(const hullpippin_reader *reader, const hullpippin_pending *pending, hullpippin_facts *facts);
+
+/*
  * Rings: whose turn it is, among those that share something. Each is known by a number, which is of a ring too: of those below it. So
  * processes stand in the ring of their user, and users in that of all.
  *

@@ -43,39 +43,6 @@ static bool is_done(const struct run *run, int error)
     return !error && !run->engine->answer.notes;
 }
 
-/* X15: there is no frame that the reply would close. */
-enum { NO_CALL = 15 };
-
-/* What a transaction or reply leaves of the thread: its frames, and whether its next read has something to tell at
-   once. */
-static void note_call(struct thread *thread, bool is_reply, bool is_one_way, const hullpippin_answer *answer)
-{
-    bool is_refused = answer->stop == HULLPIPPIN_AT_CAUSE;
-    if (is_reply && is_refused && answer->number == NO_CALL) {
-        thread->refusals++;
-    } else if (is_reply) {
-        thread->is_prompt = true;
-        if (thread->serving)
-            thread->serving--;
-    } else if (is_refused) {
-        thread->refusals++;
-    } else if (is_one_way) {
-        thread->is_prompt = true;
-    } else {
-        thread->calling++;
-        thread->completions++;
-    }
-}
-
-/* What it leaves to be read, which the thread's next write waits for where it is a refusal. */
-static void note_untold(struct thread *thread, bool is_reply, const hullpippin_answer *answer)
-{
-    bool is_refused = answer->stop == HULLPIPPIN_AT_CAUSE, completes = !is_refused || (is_reply && answer->number != NO_CALL);
-    thread->untold += completes;
-    if (is_refused)
-        thread->refusal = completes ? REFUSED_REPLY : REFUSED_CALL;
-}
-
 /* As the kernel's driver has it, nobody calls the context manager through another file that its own process has opened. */
 static bool calls_own_manager(const struct run *run, const struct binder_transaction_data *data)
 {
@@ -171,8 +138,8 @@ static int run_call(struct run *run, uint32_t code, const uint8_t *payload)
         sent_free(&run->engine->sent, sent);
     if (error)
         return error;
-    note_call(run->thread, is_reply, record.transaction_data.flags & TF_ONE_WAY, &run->engine->answer);
-    note_untold(run->thread, is_reply, &run->engine->answer);
+    uint32_t kind = is_reply ? HULLPIPPIN_SENT_REPLY : record.transaction_data.flags & TF_ONE_WAY ? HULLPIPPIN_SENT_ONE_WAY : HULLPIPPIN_SENT_CALL;
+    hullpippin_reader_sent(&run->thread->reader, kind, run->engine->answer.stop, run->engine->answer.number);
     if (run->engine->answer.stop == HULLPIPPIN_AT_END)
         sendings_note(run->thread, &parcel, target.process);
     return 0;
@@ -275,8 +242,8 @@ static int run_clearing(struct run *run, const uint8_t *command, uint32_t size)
     if (!owed_take(run->thread))
         return ENOMEM;
     int error = engine_command(run->engine, run->thread->seat, command, size);
-    run->thread->clearings += is_done(run, error);
-    run->thread->is_prompt = run->thread->is_prompt || (!error && is_clearing_unread(run));
+    run->thread->reader.clearings += is_done(run, error);
+    run->thread->reader.is_prompt = run->thread->reader.is_prompt || (!error && is_clearing_unread(run));
     return error;
 }
 

@@ -880,10 +880,6 @@ struct writing {
     uint8_t stream[PAGE_STREAM];
 };
 
-/* What was refused of a thread and isn't handed over to it yet. A call, or a reply to nobody, is told by BR_FAILED_REPLY or
-   BR_DEAD_REPLY; any other reply by the last BR_TRANSACTION_COMPLETE. */
-enum refusal { NOT_REFUSED, REFUSED_CALL, REFUSED_REPLY };
-
 /* A call that a thread serves. */
 struct served {
     uint32_t caller;        /* the pid in the engine of the process that waits for the answer; 0: it isn't known */
@@ -907,19 +903,12 @@ struct thread {
 
     bool is_looper;            /* it is in the loop, and reads what comes to the process */
     bool has_looped;           /* .. or was there before */
-    uint32_t serving, calling; /* open frames: calls that it has to answer, calls that it waits for */
-    struct served served[SERVED_KNOWN]; /* the first of the former */
+    hullpippin_reader reader;  /* what its calls have left to be read and told; until a refusal is told, nothing that it writes is run */
+    struct served served[SERVED_KNOWN]; /* the first of the calls that it has to answer */
     struct writing *writing;   /* a write that takes more than one turn; NULL: none */
-    uint32_t refusals;         /* refused commands whose BR_FAILED_REPLY or BR_DEAD_REPLY isn't read yet */
-    uint32_t completions;      /* two-way calls of which it isn't read yet that they were taken */
-    uint32_t clearings;        /* death notifications of which it isn't read yet that they were taken back, at most */
-    uint32_t owed;             /* of all these so many count in its process's share */
-
-    enum refusal refusal;      /* until it is handed over, nothing that the thread writes is run */
-    uint32_t untold;           /* calls and replies whose BR_TRANSACTION_COMPLETE isn't handed over yet */
+    uint32_t owed;             /* of all that the reader has so many count in its process's share */
 
     bool is_waiting;           /* it waits in a read for something to come */
-    bool has_no_room;          /* .. in which no return finds room, and there is one */
     uint32_t room;             /* how many bytes of returns that read has room for */
     uint32_t told;             /* what the bridge knows of it (waiting.c) .. */
     uint32_t limit, defers;    /* .. of its read: with which limit it is made, and what it need not be told before a reply */
@@ -933,8 +922,6 @@ struct thread {
        more, they wait for what is to come (the kernel's deferred completion). */
     uint8_t pending[PAGE_RETURNS + READ_LEAST];
     uint32_t pending_size;
-    bool is_prompt; /* they don't wait, or will not: there is or will be more than that */
-    bool is_behind; /* some were handed over by other threads: what the engine has for it comes with them */
     struct landing *landing; /* NULL: no parcel had descriptors yet */
     struct sendings *sendings; /* NULL: it has read that all was taken that it has sent */
 };
@@ -1012,18 +999,14 @@ void parcel_place(struct thread *thread, uint32_t count);
 bool returns_are_there(const struct thread *thread);
 /* .. and, of its own, all of it that is to be handed over together. */
 bool returns_are_whole(const struct thread *thread);
-/* With which limit the engine may read for the thread. */
-uint32_t returns_limit(const struct thread *thread);
-/* Whether its read has room for a return, or may not come back without one. */
-bool returns_find_room(const struct thread *thread);
+/* What is so of the thread's read, as the library has it. */
+hullpippin_facts returns_facts(const struct thread *thread);
 /* Reads once from the engine: 0 or an errno. */
 int returns_fetch(struct thread *thread);
 /* Takes what the engine's latest read has got, which was for the thread: 0, or EAGAIN where that was nothing. */
 int returns_take(struct thread *thread);
 /* Reads the next of what a two-way call has left, up to its completion, which waits for the reply; EAGAIN where that was read. */
 int returns_fetch_deferred(struct thread *thread);
-/* Whether the engine still has what the thread's calls and replies have left. */
-bool returns_are_left(const struct thread *thread);
 /* Reads all of that, up to the latest's completion. */
 int returns_fetch_sent(struct thread *thread);
 /* Answers the thread's read with what is there. */

@@ -43,7 +43,7 @@ void page_answer(struct thread *thread, uint32_t size)
 {
     struct page *page = thread->page;
     thread->answer.returns_size = size;
-    thread->answer.refused = thread->refusal != NOT_REFUSED;
+    thread->answer.refused = thread->reader.refusal != HULLPIPPIN_REFUSAL_NONE;
     page->answer = thread->answer;
     atomic_store(&page->state, PAGE_ANSWERED);
     wake(thread);
@@ -201,7 +201,7 @@ static void exit_thread(struct thread *thread)
 {
     seat_return(thread);
     thread->pending_size = 0;
-    thread->is_prompt = thread->has_looped = false;
+    thread->reader.is_prompt = thread->has_looped = false;
 }
 
 static int give_doorbell(struct thread *thread)
@@ -295,11 +295,11 @@ enum at_once { WAITS, HAS_SOMETHING, COMES_BACK };
 /* Of what it has brought about itself it is known that it is there; who waits for a reply is the bridge's. */
 static enum at_once is_at_once(struct thread *thread, uint32_t flags)
 {
-    if (thread->is_prompt && thread->untold && !thread->pending_size)
+    if (thread->reader.is_prompt && thread->reader.untold && !thread->pending_size)
         return HAS_SOMETHING;
     if (flags & PAGE_NONBLOCK || returns_are_there(thread) || is_to_return(thread))
         return COMES_BACK;
-    return !thread->calling && is_ready(thread) ? HAS_SOMETHING : WAITS;
+    return !thread->reader.calling && is_ready(thread) ? HAS_SOMETHING : WAITS;
 }
 
 static int read_at_once(struct thread *thread, bool has_something)

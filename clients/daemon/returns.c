@@ -11,9 +11,9 @@
 /* Whether it gets what comes to its process. As in the kernel a read that gets something of its own gets nothing of that. */
 static bool reads_for_process(const struct thread *thread)
 {
+    hullpippin_facts facts = returns_facts(thread);
     hullpippin_work own;
-    return thread->is_looper && !thread->serving && !thread->calling && !returns_are_left(thread)
-           && !hullpippin_live_unread_of_thread(&thread->process->engine->live, thread->seat, 0, &own);
+    return facts.is_idle && !facts.is_left && !hullpippin_live_unread_of_thread(&thread->process->engine->live, thread->seat, 0, &own);
 }
 
 /* What a process has taken back stands on its list among all else, in the order of the steps. */
@@ -31,13 +31,13 @@ static bool has_cleared(const struct thread *thread)
 
 bool returns_are_whole(const struct thread *thread)
 {
-    bool are_there = (thread->pending_size && thread->is_prompt) || thread->has_no_room;
-    return are_there && !(thread->is_behind && returns_are_left(thread));
+    return returns_facts(thread).is_whole;
 }
 
+/* Of who has read nothing it need not be asked. */
 bool returns_are_there(const struct thread *thread)
 {
-    return (thread->pending_size && thread->is_prompt) || thread->has_no_room || has_cleared(thread);
+    return ((thread->pending_size || thread->reader.is_full) && returns_facts(thread).is_there) || has_cleared(thread);
 }
 
 /* Appends a return to the pending ones. There is room: it was left by the limit of the read. */
@@ -48,7 +48,7 @@ static void append(struct thread *thread, const uint8_t *bytes, uint32_t size)
 }
 
 /* A transaction or reply: its parcel goes to the window, and its record becomes the client's. */
-static void take_call(struct thread *thread, uint8_t *bytes, bool is_reply)
+static void take_call(struct thread *thread, uint32_t code, uint8_t *bytes)
 {
     struct binder_transaction_data record;
     memcpy(&record, bytes, sizeof record);
@@ -56,28 +56,9 @@ static void take_call(struct thread *thread, uint8_t *bytes, bool is_reply)
     record.sender_pid = sender ? caller_pid_for(&sender->caller, &thread->process->caller) : 0;
     parcel_deliver(thread, &record);
     memcpy(bytes, &record, sizeof record);
-    if (!is_reply && !(record.flags & TF_ONE_WAY)) {
-        thread->serving++;
+    hullpippin_reader_read(&thread->reader, code, record.flags & TF_ONE_WAY);
+    if (code == BR_TRANSACTION && !(record.flags & TF_ONE_WAY))
         target_note_served(thread, sender, record.flags);
-    }
-    if (is_reply && thread->calling)
-        thread->calling--;
-}
-
-/* A call was refused, or one that was accepted gets no reply. */
-static void take_failure(struct thread *thread)
-{
-    if (thread->refusals)
-        thread->refusals--;
-    else if (thread->calling)
-        thread->calling--;
-}
-
-/* As in the kernel a two-way call's completion, and what its owner is to be told of the objects that it carries, are read along with
-   what comes next. */
-static bool waits_for_reply(const struct thread *thread, uint32_t code)
-{
-    return code == BR_TRANSACTION_COMPLETE || (thread->calling && (code == BR_INCREFS || code == BR_ACQUIRE));
 }
 
 static void take_return(struct thread *thread, uint8_t *bytes, uint32_t size)
@@ -87,15 +68,9 @@ static void take_return(struct thread *thread, uint8_t *bytes, uint32_t size)
     if (code == BR_NOOP)
         return;
     if (code == BR_TRANSACTION || code == BR_REPLY)
-        take_call(thread, bytes + sizeof code, code == BR_REPLY);
-    else if (code == BR_DEAD_REPLY || code == BR_FAILED_REPLY)
-        take_failure(thread);
-    if (!waits_for_reply(thread, code))
-        thread->is_prompt = true;
-    if (code == BR_TRANSACTION_COMPLETE && thread->completions)
-        thread->completions--;
-    if (code == BR_CLEAR_DEATH_NOTIFICATION_DONE && thread->clearings)
-        thread->clearings--;
+        take_call(thread, code, bytes + sizeof code);
+    else
+        hullpippin_reader_read(&thread->reader, code, 0);
     append(thread, bytes, size);
 }
 
@@ -114,7 +89,7 @@ static void take_cleared(struct thread *thread)
            && is_next(thread->process, &cleared->all[taken]); taken++) {
         done.cookie = cleared->all[taken].cookie;
         append(thread, (const uint8_t *)&done, sizeof done);
-        thread->is_prompt = true;
+        thread->reader.is_prompt = true;
     }
     cleared->count -= taken;
     memmove(cleared->all, cleared->all + taken, cleared->count * sizeof *cleared->all);
@@ -124,7 +99,7 @@ static void take_cleared(struct thread *thread)
 static int take(struct thread *thread, uint8_t *returns, uint32_t size, bool is_something)
 {
     if (!is_something) {
-        thread->clearings = 0; /* nothing is left to be read of it */
+        thread->reader.clearings = 0; /* nothing is left to be read of it */
         return EAGAIN;
     }
     if (thread->process->cleared.count)
@@ -149,24 +124,13 @@ static int fetch(struct thread *thread, uint32_t limit)
     return error ? error : take(thread, engine->returns, engine->returns_size, engine->answer.kind == HULLPIPPIN_GOT);
 }
 
-uint32_t returns_limit(const struct thread *thread)
-{
-    uint32_t used = thread->pending_size + RETURN_ROOM - (READ_LEAST - sizeof(uint32_t));
-    return thread->room > used + READ_LEAST ? thread->room - used : READ_LEAST;
-}
-
-/* What there is may be another's, who has room. */
-bool returns_find_room(const struct thread *thread)
-{
-    return thread->room >= sizeof(uint32_t) + RETURN_ROOM || thread->calling;
-}
-
 int returns_fetch(struct thread *thread)
 {
     sendings_gather(thread);
     take_cleared(thread);
-    thread->has_no_room = !returns_find_room(thread);
-    return thread->has_no_room ? 0 : fetch(thread, returns_limit(thread));
+    hullpippin_facts facts = returns_facts(thread);
+    thread->reader.is_full = !facts.has_room;
+    return facts.has_room ? fetch(thread, facts.limit) : 0;
 }
 
 /* What others' reads bring for the thread stands before, and is read by steps of its own. */
@@ -192,7 +156,7 @@ int returns_take(struct thread *thread)
 /* The least limit leaves no room for the reply behind anything else. */
 int returns_fetch_deferred(struct thread *thread)
 {
-    return thread->completions && !thread->is_prompt ? fetch(thread, READ_LEAST) : EAGAIN;
+    return returns_facts(thread).fetches ? fetch(thread, READ_LEAST) : EAGAIN;
 }
 
 static bool is_completion(uint32_t code)
@@ -210,15 +174,18 @@ static uint32_t pending_completions(const struct thread *thread)
     return count;
 }
 
-bool returns_are_left(const struct thread *thread)
+hullpippin_facts returns_facts(const struct thread *thread)
 {
-    return pending_completions(thread) < thread->untold;
+    const hullpippin_pending pending = {thread->pending_size, pending_completions(thread), thread->room, thread->is_looper};
+    hullpippin_facts facts;
+    hullpippin_reader_facts(&thread->reader, &pending, &facts);
+    return facts;
 }
 
 int returns_fetch_sent(struct thread *thread)
 {
     int error = 0;
-    while (!error && returns_are_left(thread))
+    while (!error && returns_facts(thread).is_left)
         error = fetch(thread, READ_LEAST);
     return error;
 }
@@ -252,21 +219,6 @@ static void send_landing(struct thread *thread)
     tickets_close(account, fds, count);
 }
 
-/* The thread is told how a command of it came out, perhaps that which was refused. */
-static void note_told(struct thread *thread, uint32_t code)
-{
-    if (is_completion(code)) {
-        thread->untold -= thread->untold > 0;
-        if (thread->untold)
-            return;
-        sendings_end(thread);
-        if (thread->refusal == REFUSED_REPLY)
-            thread->refusal = NOT_REFUSED;
-    } else if ((code == BR_FAILED_REPLY || code == BR_DEAD_REPLY) && thread->refusal == REFUSED_CALL) {
-        thread->refusal = NOT_REFUSED;
-    }
-}
-
 /* How many bytes of the pending returns fit into so much room. */
 static uint32_t fitting(struct thread *thread, uint32_t room)
 {
@@ -276,17 +228,11 @@ static uint32_t fitting(struct thread *thread, uint32_t room)
         memcpy(&code, thread->pending + size, sizeof code);
         if (code == BR_TRANSACTION || code == BR_REPLY)
             send_landing(thread);
-        note_told(thread, code);
+        if (hullpippin_reader_told(&thread->reader, code))
+            sendings_end(thread);
         size += sizeof code + _IOC_SIZE(code);
     }
     return size;
-}
-
-/* Whether there is more that doesn't wait for a reply: without a call of its own that is each completion that it hasn't been told. */
-static bool has_more(const struct thread *thread)
-{
-    bool is_left = thread->calling ? hullpippin_live_ready(&thread->process->engine->live, thread->seat) : thread->untold;
-    return thread->has_no_room || is_left;
 }
 
 /* What fits is handed over, behind BR_NOOP. */
@@ -305,8 +251,8 @@ void returns_deliver(struct thread *thread)
             memmove(thread->pending, thread->pending + size, thread->pending_size);
         size += sizeof first;
     }
-    thread->is_prompt = thread->pending_size || (thread->is_prompt && has_more(thread));
-    thread->has_no_room = thread->is_behind = false;
+    bool is_ready = thread->reader.calling && hullpippin_live_ready(&thread->process->engine->live, thread->seat);
+    hullpippin_reader_delivered(&thread->reader, thread->pending_size, is_ready);
     waiting_ring(thread);
     page_answer(thread, size);
 }

@@ -29,8 +29,7 @@ static void take_away(struct thread *thread)
     waiting_forget(thread);
     thread->seat = NO_SEAT;
     thread->is_looper = false;
-    thread->serving = thread->calling = thread->refusals = thread->completions = thread->untold = thread->clearings = 0;
-    thread->refusal = NOT_REFUSED;
+    thread->reader = (hullpippin_reader){0};
     sendings_end(thread);
     doorbell_set(thread, false);
 }
@@ -51,7 +50,7 @@ static void lose(struct engine *engine, uint32_t seat)
 /* Whether the thread would lose nothing with its seat. */
 static bool is_idle(struct engine *engine, const struct thread *thread)
 {
-    return !thread->is_looper && !thread->serving && !thread->calling && !thread->is_waiting && thread->doorbell < 0
+    return !thread->is_looper && !thread->reader.serving && !thread->reader.calling && !thread->is_waiting && thread->doorbell < 0
            && !thread->pending_size && !thread->writing && !hullpippin_live_ready(&engine->live, thread->seat);
 }
 

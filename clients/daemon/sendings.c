@@ -171,7 +171,7 @@ static void hand_over(struct sendings *sendings)
         uint32_t code = told_at(thread, at, &ptr);
         struct thread *other = code ? told_instead(sendings, ptr) : NULL;
         if (other) {
-            other->is_behind = true;
+            other->reader.is_behind = true;
             settle_touch(other);
             move_to(thread, at, other, other->pending_size);
             continue;

@@ -237,7 +237,7 @@ static __attribute__((noinline)) bool owed_change(struct thread *thread, uint32_
 /* Few calls have to change what is taken. */
 bool owed_take(struct thread *thread)
 {
-    uint32_t owed = thread->calling + thread->untold + thread->refusals + thread->clearings;
+    uint32_t owed = thread->reader.calling + thread->reader.untold + thread->reader.refusals + thread->reader.clearings;
     return (owed < thread->owed && thread->owed - owed <= 2 * OWED_EACH) || owed_change(thread, owed);
 }
 

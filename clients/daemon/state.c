@@ -66,8 +66,8 @@ static void tell_thread(struct engine *engine, const struct thread *thread, stru
     hullpippin_frame frame = {.made = RING_NONE};
     hullpippin_live_innermost(&engine->live, thread->seat, &frame);
     *record = (struct state_record){.kind = STATE_THREAD, .process = thread->process->engine_pid, .pid = (uint32_t)thread->process->pid,
-                                    .tid = (uint32_t)thread->name.tid, .seat = thread->seat, .serving = thread->serving,
-                                    .calling = thread->calling, .innermost = frame.made, .unread = unread_of_thread(engine, thread->seat)};
+                                    .tid = (uint32_t)thread->name.tid, .seat = thread->seat, .serving = thread->reader.serving,
+                                    .calling = thread->reader.calling, .innermost = frame.made, .unread = unread_of_thread(engine, thread->seat)};
     record->flags = (thread->is_looper ? STATE_LOOPS : 0) | (thread->is_waiting ? STATE_WAITS : 0);
     memcpy(record->comm, thread->name.comm, sizeof record->comm);
 }

@@ -35,8 +35,8 @@ static struct process *find_object(const struct process *process, uint32_t handl
 /* The call that the thread's next reply answers. Where nothing is known of it, it may be answered with descriptors. */
 static struct served latest_served(const struct thread *thread)
 {
-    bool is_known = thread->serving && thread->serving <= SERVED_KNOWN;
-    return is_known ? thread->served[thread->serving - 1] : (struct served){.takes_descriptors = true};
+    bool is_known = thread->reader.serving && thread->reader.serving <= SERVED_KNOWN;
+    return is_known ? thread->served[thread->reader.serving - 1] : (struct served){.takes_descriptors = true};
 }
 
 struct target target_of(const struct thread *thread, bool is_reply, uint32_t handle)
@@ -74,6 +74,6 @@ bool target_takes_descriptors(const struct thread *thread, bool is_reply, uint32
 
 void target_note_served(struct thread *thread, const struct process *caller, uint32_t flags)
 {
-    if (thread->serving <= SERVED_KNOWN && thread->serving)
-        thread->served[thread->serving - 1] = (struct served){caller ? caller->engine_pid : 0, flags & TF_ACCEPT_FDS};
+    if (thread->reader.serving <= SERVED_KNOWN && thread->reader.serving)
+        thread->served[thread->reader.serving - 1] = (struct served){caller ? caller->engine_pid : 0, flags & TF_ACCEPT_FDS};
 }

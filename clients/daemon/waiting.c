@@ -13,11 +13,6 @@
 /* What the bridge has been told of a thread. */
 enum { TOLD_READ = 1, TOLD_BELL = 2 };
 
-static bool is_idle(const struct thread *thread)
-{
-    return thread->is_looper && !thread->serving && !thread->calling;
-}
-
 /* Whether it has something to read that isn't the process's. */
 static bool has_own(const struct thread *thread)
 {
@@ -26,9 +21,9 @@ static bool has_own(const struct thread *thread)
 }
 
 /* Whether what others do may bring it something, or it has something. */
-static bool is_concerned(const struct thread *thread)
+static bool is_concerned(const struct thread *thread, const hullpippin_facts *facts)
 {
-    return thread->calling || is_idle(thread) || has_own(thread);
+    return thread->reader.calling || facts->is_idle || has_own(thread);
 }
 
 static bool is_pooled(const struct thread *thread)
@@ -42,22 +37,17 @@ static bool waits_on(const struct thread *thread)
     return thread->is_waiting && list_is_empty(&thread->in_woken);
 }
 
-/* What it need not be told before the reply: where it has made a call, and nothing is due that can't wait. */
-static uint32_t deferring(const struct thread *thread)
-{
-    return thread->calling && !thread->is_prompt ? HULLPIPPIN_LEAVES : HULLPIPPIN_TELLS_ALL;
-}
-
 /* Whether it is to be looked at the bridge has found by now. */
 static void note_left(struct engine *engine)
 {
     engine->is_left = engine->is_left || hullpippin_bridge_suspects(&engine->live);
 }
 
-static uint32_t tell_read(struct thread *thread)
+/* What it need not be told before the reply to a call of its own is left. */
+static uint32_t tell_read(struct thread *thread, const hullpippin_facts *facts)
 {
     struct engine *engine = thread->process->engine;
-    uint32_t limit = returns_limit(thread), defers = deferring(thread);
+    uint32_t limit = facts->limit, defers = facts->defers ? HULLPIPPIN_LEAVES : HULLPIPPIN_TELLS_ALL;
     if (thread->told & TOLD_READ && limit == thread->limit && defers == thread->defers)
         return HULLPIPPIN_DONE;
     uint32_t status = hullpippin_bridge_wait(&engine->live, thread->seat, limit, defers);
@@ -98,23 +88,29 @@ static void tell_no_more(struct thread *thread, bool reads, bool has_bell)
 }
 
 /* Has the bridge know how the thread waits. In whose read no return finds room, that is told by a bell. */
-static uint32_t try_to_tell(struct thread *thread)
+static uint32_t try_to_tell(struct thread *thread, const hullpippin_facts *facts)
 {
     bool is_apart = thread->seat != NO_SEAT && !is_pooled(thread), waits = is_apart && waits_on(thread);
-    bool reads = waits && returns_find_room(thread);
-    bool has_bell = (is_apart && thread->doorbell >= 0 && is_concerned(thread)) || (waits && !reads);
+    bool reads = waits && facts->has_room;
+    bool has_bell = (is_apart && thread->doorbell >= 0 && is_concerned(thread, facts)) || (waits && !reads);
     tell_no_more(thread, reads, has_bell);
     uint32_t status = has_bell ? tell_bell(thread) : HULLPIPPIN_DONE;
-    return reads && status == HULLPIPPIN_DONE ? tell_read(thread) : status;
+    return reads && status == HULLPIPPIN_DONE ? tell_read(thread, facts) : status;
+}
+
+static int tell_by(struct thread *thread, const hullpippin_facts *facts)
+{
+    uint32_t status = try_to_tell(thread, facts);
+    if (status == HULLPIPPIN_DONE)
+        return 0;
+    reserve_use(thread->process->engine);
+    return try_to_tell(thread, facts) == HULLPIPPIN_DONE ? 0 : ENOMEM;
 }
 
 static int tell(struct thread *thread)
 {
-    uint32_t status = try_to_tell(thread);
-    if (status == HULLPIPPIN_DONE)
-        return 0;
-    reserve_use(thread->process->engine);
-    return try_to_tell(thread) == HULLPIPPIN_DONE ? 0 : ENOMEM;
+    const hullpippin_facts facts = returns_facts(thread);
+    return tell_by(thread, &facts);
 }
 
 /* --- Doorbells. --- */
@@ -173,10 +169,10 @@ static void leave_idle(struct thread *thread)
 }
 
 /* Who polls comes behind all who read. */
-static void join_idle(struct thread *thread)
+static void join_idle(struct thread *thread, const hullpippin_facts *facts)
 {
     struct process *process = thread->process;
-    if (thread->seat == NO_SEAT || process->is_ending || !is_idle(thread))
+    if (thread->seat == NO_SEAT || process->is_ending || !facts->is_idle)
         return;
     if (waits_on(thread))
         list_append(process->idle.next, &thread->in_idle);
@@ -218,10 +214,11 @@ static void choose_herald(struct process *process, const struct thread *noted)
 
 int waiting_note(struct thread *thread)
 {
+    const hullpippin_facts facts = returns_facts(thread);
     leave_idle(thread);
-    join_idle(thread);
+    join_idle(thread, &facts);
     choose_herald(thread->process, thread);
-    return tell(thread);
+    return tell_by(thread, &facts);
 }
 
 void waiting_stop(struct thread *thread)

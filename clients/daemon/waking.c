@@ -85,7 +85,7 @@ static void take_read(struct thread *thread, bool wakes, int error)
         waiting_woken(thread);
     if (!error)
         error = returns_take(thread);
-    if (!error && wakes && thread->is_behind)
+    if (!error && wakes && thread->reader.is_behind)
         returns_fetch_sent(thread);
     if (error == EAGAIN || (!error && (!wakes || !thread->pending_size)))
         error = waiting_note(thread);
@@ -98,8 +98,8 @@ static void take_read(struct thread *thread, bool wakes, int error)
 /* What a call has left doesn't count before its reply. */
 static void hear(struct thread *thread, bool rings)
 {
-    if (rings && thread->is_waiting && !returns_find_room(thread)) {
-        thread->has_no_room = true;
+    if (rings && thread->is_waiting && !returns_facts(thread).has_room) {
+        thread->reader.is_full = true;
         returns_deliver(thread);
     }
     if (rings && !returns_are_there(thread) && !returns_fetch_deferred(thread))

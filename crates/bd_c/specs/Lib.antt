@@ -29,3 +29,4 @@ pub mod Texts
 pub mod Tickets
 pub mod Turns
 pub mod Wrappings
+pub mod Readers

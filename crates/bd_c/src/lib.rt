@@ -37,6 +37,8 @@ mod opening;
 mod pages;
 mod parcel_calls;
 mod parts;
+mod reader_calls;
+mod readers;
 mod requests;
 mod ring_calls;
 mod seat;

@@ -987,6 +987,86 @@ pub const HULLPIPPIN_WAY_WRAPPED: u32 = 1;
 /// Not at all: it has too many objects that the engine knows.
 pub const HULLPIPPIN_WAY_LOST: u32 = 2;
 
+/// A thread that reads, and what it has yet to read.
+#[repr(C)]
+#[derive(Clone, Copy, Debug, Default, PartialEq, Eq)]
+pub struct hullpippin_reader {
+    /// Calls that it has to answer.
+    pub serving: u32,
+    /// Calls whose end it hasn't read.
+    pub calling: u32,
+    /// Refusals that it hasn't read.
+    pub refusals: u32,
+    /// Two-way calls of which it hasn't read that they were taken.
+    pub completions: u32,
+    /// Death notifications of which it hasn't read that they were taken back, at most.
+    pub clearings: u32,
+    /// Calls and replies of which it wasn't told that they were taken.
+    pub untold: u32,
+    /// What was refused and isn't told: HULLPIPPIN_REFUSAL_NONE ..
+    pub refusal: u32,
+    /// Not 0: it has read, or will, more than what can wait for a reply.
+    pub is_prompt: u32,
+    /// Not 0: others have handed over some of it, and what the engine has comes with that.
+    pub is_behind: u32,
+    /// Not 0: its read has no room for a return that is there.
+    pub is_full: u32,
+}
+
+/// What was refused of a thread and isn't told to it.
+pub const HULLPIPPIN_REFUSAL_NONE: u32 = 0;
+
+/// A call, or a reply to nobody: BR_FAILED_REPLY or BR_DEAD_REPLY tells it.
+pub const HULLPIPPIN_REFUSAL_CALL: u32 = 1;
+
+/// Any other reply: the last BR_TRANSACTION_COMPLETE tells it.
+pub const HULLPIPPIN_REFUSAL_REPLY: u32 = 2;
+
+/// What a thread sends.
+pub const HULLPIPPIN_SENT_CALL: u32 = 0;
+
+/// What a thread sends.
+pub const HULLPIPPIN_SENT_ONE_WAY: u32 = 1;
+
+/// What a thread sends.
+pub const HULLPIPPIN_SENT_REPLY: u32 = 2;
+
+/// What a thread has read and wasn't told, and its read.
+#[repr(C)]
+#[derive(Clone, Copy, Debug, Default, PartialEq, Eq)]
+pub struct hullpippin_pending {
+    /// How many bytes of returns ..
+    pub size: u32,
+    /// .. and how many BR_TRANSACTION_COMPLETE and BR_ONEWAY_SPAM_SUSPECT among them.
+    pub completed: u32,
+    /// So many bytes its read has room for.
+    pub room: u32,
+    /// Not 0: it is in the loop.
+    pub is_looping: u32,
+}
+
+/// What is so of a thread that reads.
+#[repr(C)]
+#[derive(Clone, Copy, Debug, Default, PartialEq, Eq)]
+pub struct hullpippin_facts {
+    /// Its read has something to be answered with ..
+    pub is_there: bool,
+    /// .. and all of its own that is told together.
+    pub is_whole: bool,
+    /// The engine has some of what its calls and replies have left.
+    pub is_left: bool,
+    /// It is in a call of its own, and what it has can wait for the reply.
+    pub defers: bool,
+    /// It has made such a call, and hasn't read that this was taken.
+    pub fetches: bool,
+    /// It is in the loop, and in no call: it gets what comes to its process.
+    pub is_idle: bool,
+    /// Its read has room for a return, or may not come back without one.
+    pub has_room: bool,
+    /// Of the engine's read for it.
+    pub limit: u32,
+}
+
 extern "C" {
     /// The version of the library that you link, as HULLPIPPIN_VERSION has the header's.
     pub fn hullpippin_version() -> u32;
@@ -1511,6 +1591,26 @@ extern "C" {
     /// Lets go of tickets, and empties the handle: whatever is still on its way is nobody's then. Does nothing where it
     /// is empty.
     pub fn hullpippin_free_tickets(tickets: *mut hullpippin_tickets);
+
+    /// A command of the thread was run, HULLPIPPIN_SENT_CALL .., with `stop` and `number` of its answer.
+    pub fn hullpippin_reader_sent(reader: *mut hullpippin_reader, kind: u32, stop: u32, number: u32);
+
+    /// The thread has read a return of this code. `is_one_way` isn't 0 where it is a one-way call.
+    pub fn hullpippin_reader_read(reader: *mut hullpippin_reader, code: u32, is_one_way: u32);
+
+    /// The thread is told a return of this code. Whether it is told by that of all that it has sent.
+    pub fn hullpippin_reader_told(reader: *mut hullpippin_reader, code: u32) -> bool;
+
+    /// A read of the thread is answered. `is_left` isn't 0 where it has read more than it is told, `is_ready` where the
+    /// engine has more for it.
+    pub fn hullpippin_reader_delivered(reader: *mut hullpippin_reader, is_left: u32, is_ready: u32);
+
+    /// Tells what is so of the thread.
+    pub fn hullpippin_reader_facts(
+        reader: *const hullpippin_reader,
+        pending: *const hullpippin_pending,
+        facts: *mut hullpippin_facts,
+    );
 
     /// Makes rings: no number is anybody's. `rings` is empty, and stays so unless the answer is DONE. Also NO_MEMORY,
     /// MISUSE.
