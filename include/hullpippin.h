@@ -27,7 +27,7 @@
  * The library can't see the following, which is yours to keep. If you don't, nothing is promised:
  *
  *  - Each handle is empty when you make it: HULLPIPPIN_NO_DRIVER, HULLPIPPIN_NO_SEAT, HULLPIPPIN_NO_LIVE, HULLPIPPIN_NO_TICKETS,
- *    HULLPIPPIN_NO_RINGS, or all zeros, as a static one is. From then on it has what a function of this header left there. You don't copy it, and neither read nor
+ *    HULLPIPPIN_NO_RINGS, HULLPIPPIN_NO_SENDINGS, or all zeros, as a static one is. From then on it has what a function of this header left there. You don't copy it, and neither read nor
  *    change its pointer.
  *  - No pointer is wild: each leads to what it says, of the size that you tell. NULL is wild, but for (NULL, 0), which are no
  *    bytes or no numbers: so no handle is at NULL, nor an answer or a size that a call fills.
@@ -78,6 +78,11 @@ typedef struct {
     void *at;
 } hullpippin_rings;
 
+/* What the threads of a process have sent, which says whom of it is told of that. */
+typedef struct {
+    void *at;
+} hullpippin_sendings;
+
 /* Handles that have nothing, to begin with or to assign. A static handle without another value begins as one. */
 #ifdef __cplusplus
 #define HULLPIPPIN_NO_DRIVER hullpippin_driver{ NULL }
@@ -85,12 +90,14 @@ typedef struct {
 #define HULLPIPPIN_NO_LIVE hullpippin_live{ NULL }
 #define HULLPIPPIN_NO_TICKETS hullpippin_tickets{ NULL }
 #define HULLPIPPIN_NO_RINGS hullpippin_rings{ NULL }
+#define HULLPIPPIN_NO_SENDINGS hullpippin_sendings{ NULL }
 #else
 #define HULLPIPPIN_NO_DRIVER ((hullpippin_driver){ NULL })
 #define HULLPIPPIN_NO_SEAT ((hullpippin_seat){ NULL })
 #define HULLPIPPIN_NO_LIVE ((hullpippin_live){ NULL })
 #define HULLPIPPIN_NO_TICKETS ((hullpippin_tickets){ NULL })
 #define HULLPIPPIN_NO_RINGS ((hullpippin_rings){ NULL })
+#define HULLPIPPIN_NO_SENDINGS ((hullpippin_sendings){ NULL })
 #endif
 
 /* Where a buffer of no bytes may be, one of no numbers, and one of no places; NULL does as well. */
@@ -1181,6 +1188,61 @@ bool hullpippin_rings_pass(hullpippin_rings *rings, uint32_t ring);
 
 /* Lets go of rings, and empties the handle. Does nothing where it is empty. */
 void hullpippin_free_rings(hullpippin_rings *rings);
+
+/*
+ * Sendings: whom of a process is told of an object that its threads send, and in which order. By the rules whatever sends an object that its
+ * owner isn't told of has its thread told, and a parcel's objects are told in the order in which they come first. With Linux's driver a
+ * receiver's first strong reference does this, and puts what is to be told behind all that the thread has; where the receiver has one already
+ * by what another thread has sent, that one is told. Sendings say so of what the process's threads have sent without having read yet that it was
+ * taken. Threads and receivers are numbers of the caller's.
+ *
+ *     .. a thread's call or reply was taken ..     hullpippin_sendings_note(&sendings, &sending, data, data_size, offsets, offsets_size);
+ *     .. before the thread reads ..                for (i = 0; i < hullpippin_sendings_count(&sendings); i++)
+ *                                                      if (hullpippin_sendings_sender(&sendings, thread, i, &sender))
+ *                                                          .. what the engine has for that sender is read first ..
+ *     .. the engine tells it of an object ..       hullpippin_sendings_told(&sendings, thread, ptr) is told that
+ *     .. and of another behind that ..             where hullpippin_sendings_before(&sendings, thread, another, object), it goes before
+ *     .. it has read that all was taken ..         hullpippin_sendings_end(&sendings, thread);
+ *
+ * So many objects are known: 32 of a thread, 512 of all, and none of a parcel with more than 32. What isn't known is told by the rules. Proved is
+ * that each call answers by its definition (bd_sendings, specs/Sendings); that who is told in another's place has sent the object itself; and that
+ * who hasn't sent an object is told what the engine tells it. Only new takes memory.
+ */
+
+/* A call or reply that was taken. */
+typedef struct {
+    uint64_t step;     /* its place among the engine's steps */
+    uint32_t sender;   /* the thread that sends it */
+    uint32_t receiver; /* the process that it goes to; 0: it isn't known */
+    uint32_t let_go;   /* how often that one has let go of what may have carried objects */
+} hullpippin_sending;
+
+/* Makes sendings: nothing is known to be sent. `sendings` is empty, and stays so unless the answer is DONE. Also NO_MEMORY, MISUSE. */
+uint32_t hullpippin_sendings_new(hullpippin_sendings *sendings);
+
+/* The objects of a parcel are sent, in the order of their offsets, by the bytes that the engine got. */
+void hullpippin_sendings_note(hullpippin_sendings *sendings, const hullpippin_sending *sending, const uint8_t *data, size_t data_size,
+                              const uint8_t *offsets, size_t offsets_size);
+
+/* A thread has read that all was taken that it has sent, or sends nothing more: nothing of that is known from then on. Tells whether nothing
+   of anybody's is. */
+bool hullpippin_sendings_end(hullpippin_sendings *sendings, uint32_t thread);
+
+/* Who is told what the engine tells a thread of the object with a ptr: another thread, or this one. */
+uint32_t hullpippin_sendings_told(hullpippin_sendings *sendings, uint32_t thread, uint64_t ptr);
+
+/* How many objects are known to be sent. */
+size_t hullpippin_sendings_count(hullpippin_sendings *sendings);
+
+/* Tells who has sent the object at an index below that, where another thread has, and this one is told of it. False where it isn't so, and then
+   `sender` stays as it was. */
+bool hullpippin_sendings_sender(hullpippin_sendings *sendings, uint32_t thread, size_t index, uint32_t *sender);
+
+/* Whether what a thread is told of the object with a ptr goes before what it is told of another: it has sent both, and that one later. */
+bool hullpippin_sendings_before(hullpippin_sendings *sendings, uint32_t thread, uint64_t ptr, uint64_t other);
+
+/* Lets go of sendings, and empties the handle. Does nothing where it is empty. */
+void hullpippin_free_sendings(hullpippin_sendings *sendings);
 
 /* Room for every text, and the NUL behind it. */
 #define HULLPIPPIN_TEXT_ROOM 64

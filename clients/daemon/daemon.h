@@ -792,7 +792,7 @@ struct process {
     struct thread *herald;     /* .. and the one of them that the bridge knows: the first */
     bool rings;                /* .. whose doorbell would ring: that there is something for these */
     uint32_t pollers;          /* threads that have doorbells */
-    struct list senders;       /* what some of its threads have sent (sendings.c) */
+    hullpippin_sendings sendings; /* what its threads have sent (sendings.c) */
     struct list in_clearing;
     bool is_ending;           /* it has no place in the engine any more, and its threads are let go of */
     uint32_t objects_let_go;  /* how often it has let go of what may have carried objects */
@@ -923,7 +923,7 @@ struct thread {
     uint8_t pending[PAGE_RETURNS + READ_LEAST];
     uint32_t pending_size;
     struct landing *landing; /* NULL: no parcel had descriptors yet */
-    struct sendings *sendings; /* NULL: it has read that all was taken that it has sent */
+    bool has_sent_objects; /* and not read yet that all was taken that it has sent */
 };
 
 /* Makes a thread of the process, which has told its tid. Tells its end of the link, its page and its bell, of which the first two are the

@@ -535,7 +535,6 @@ void process_accept(struct daemon *daemon, int fd)
     list_begin(&process->in_bucket);
     list_begin(&process->threads);
     list_begin(&process->idle);
-    list_begin(&process->senders);
     list_begin(&process->in_clearing);
     if (join_loop(process, &daemon->loop))
         return;

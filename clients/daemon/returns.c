@@ -148,7 +148,7 @@ static __attribute__((noinline)) int take_behind_others(struct thread *thread)
 int returns_take(struct thread *thread)
 {
     struct engine *engine = thread->process->engine;
-    if (thread->sendings)
+    if (thread->has_sent_objects)
         return take_behind_others(thread);
     return take(thread, engine->returns, engine->returns_size, engine->answer.kind == HULLPIPPIN_GOT);
 }

@@ -24,13 +24,13 @@ static void count_lent(struct engine *engine, bool is_one_more)
 /* The thread has no seat any more, and nothing is to be looked at for it. */
 static void take_away(struct thread *thread)
 {
+    sendings_end(thread);
     note(thread->process->engine, thread->seat, NULL);
     count_lent(thread->process->engine, false);
     waiting_forget(thread);
     thread->seat = NO_SEAT;
     thread->is_looper = false;
     thread->reader = (hullpippin_reader){0};
-    sendings_end(thread);
     doorbell_set(thread, false);
 }
 

@@ -1,7 +1,9 @@
--- What is behind a handle: a driver, the history of one that has ended, a seat, a live engine, descriptors that are on their way, or rings.
+-- What is behind a handle: a driver, the history of one that has ended, a seat, a live engine, descriptors that are on their way, rings, or what
+-- threads have sent.
 use Rattle.std.specs.Prelude.{◌≡◌, ◌⊎◌, Option, Some, None, ⊤, IsSomeAnd}
 use Rattle.bd_spelling.specs.declared.record.Record.{Record}
 use Rattle.bd_ring.specs.declared.rings.Rings.{Rings}
+use Rattle.bd_sendings.specs.declared.sendings.Sendings.{Sendings}
 use Rattle.bd_tickets.specs.declared.shelves.Shelves.{Shelves}
 use Rattle.bd_c.specs.declared.held.Held.{Held}
 use Rattle.bd_c.specs.declared.held.Held.TheVariants as held
@@ -51,6 +53,10 @@ abbrev pub rings_of : Held → Option Rings
 rings_of (held.Rings x) = Some x
 rings_of _ = None
 
+abbrev pub sendings_of : Held → Option Sendings
+sendings_of (held.Sendings x) = Some x
+sendings_of _ = None
+
 abbrev pub IsDriver : Option Held → Type 0
 IsDriver h = Of driver_of h (λ x. ⊤)
 
@@ -69,3 +75,6 @@ IsTickets h = Of tickets_of h (λ x. ⊤)
 
 abbrev pub IsRings : Option Held → Type 0
 IsRings h = Of rings_of h (λ x. ⊤)
+
+abbrev pub IsSendings : Option Held → Type 0
+IsSendings h = Of sendings_of h (λ x. ⊤)

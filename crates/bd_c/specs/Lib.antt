@@ -24,6 +24,7 @@ pub mod LivePolls
 pub mod LiveReached
 pub mod Spelled
 pub mod Walks
+pub mod Sendings
 pub mod SpaceTold
 pub mod Texts
 pub mod Tickets

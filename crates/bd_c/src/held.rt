@@ -3,6 +3,7 @@ use crate::host::Host;
 use crate::live::OwnedLive;
 use crate::seat::OwnedSeat;
 use bd_ring::Rings;
+use bd_sendings::Sendings;
 use bd_spelling::Record;
 use bd_tickets::Shelves;
 
@@ -21,6 +22,8 @@ pub enum Held {
     Tickets(Shelves),
     /// Those that want turns.
     Rings(Rings),
+    /// What the threads of a process have sent.
+    Sendings(Sendings),
     /// Nothing yet, or no longer.
     Nothing,
 }

@@ -43,6 +43,8 @@ mod requests;
 mod ring_calls;
 mod seat;
 mod seat_calls;
+mod sending_calls;
+mod sendings;
 mod space_calls;
 mod space_looks;
 mod space_told;

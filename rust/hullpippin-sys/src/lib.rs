@@ -75,6 +75,19 @@ impl hullpippin_rings {
     pub const NONE: hullpippin_rings = hullpippin_rings { at: core::ptr::null_mut() };
 }
 
+/// What the threads of a process have sent, which says whom of it is told of that.
+#[repr(C)]
+#[derive(Debug)]
+pub struct hullpippin_sendings {
+    /// What the library keeps.
+    pub at: *mut core::ffi::c_void,
+}
+
+impl hullpippin_sendings {
+    /// A handle that has nothing.
+    pub const NONE: hullpippin_sendings = hullpippin_sendings { at: core::ptr::null_mut() };
+}
+
 /// It was made.
 pub const HULLPIPPIN_DONE: u32 = 0;
 
@@ -1067,6 +1080,20 @@ pub struct hullpippin_facts {
     pub limit: u32,
 }
 
+/// A call or reply that was taken.
+#[repr(C)]
+#[derive(Clone, Copy, Debug, Default, PartialEq, Eq)]
+pub struct hullpippin_sending {
+    /// Its place among the engine's steps.
+    pub step: u64,
+    /// The thread that sends it.
+    pub sender: u32,
+    /// The process that it goes to; 0: it isn't known.
+    pub receiver: u32,
+    /// How often that one has let go of what may have carried objects.
+    pub let_go: u32,
+}
+
 extern "C" {
     /// The version of the library that you link, as HULLPIPPIN_VERSION has the header's.
     pub fn hullpippin_version() -> u32;
@@ -1643,4 +1670,44 @@ extern "C" {
 
     /// Lets go of rings, and empties the handle. Does nothing where it is empty.
     pub fn hullpippin_free_rings(rings: *mut hullpippin_rings);
+
+    /// Makes sendings: nothing is known to be sent. `sendings` is empty, and stays so unless the answer is DONE. Also
+    /// NO_MEMORY, MISUSE.
+    pub fn hullpippin_sendings_new(sendings: *mut hullpippin_sendings) -> u32;
+
+    /// The objects of a parcel are sent, in the order of their offsets, by the bytes that the engine got.
+    pub fn hullpippin_sendings_note(
+        sendings: *mut hullpippin_sendings,
+        sending: *const hullpippin_sending,
+        data: *const u8,
+        data_size: usize,
+        offsets: *const u8,
+        offsets_size: usize,
+    );
+
+    /// A thread has read that all was taken that it has sent, or sends nothing more: nothing of that is known from then
+    /// on. Tells whether nothing of anybody's is.
+    pub fn hullpippin_sendings_end(sendings: *mut hullpippin_sendings, thread: u32) -> bool;
+
+    /// Who is told what the engine tells a thread of the object with a ptr: another thread, or this one.
+    pub fn hullpippin_sendings_told(sendings: *mut hullpippin_sendings, thread: u32, ptr: u64) -> u32;
+
+    /// How many objects are known to be sent.
+    pub fn hullpippin_sendings_count(sendings: *mut hullpippin_sendings) -> usize;
+
+    /// Tells who has sent the object at an index below that, where another thread has, and this one is told of it.
+    /// False where it isn't so, and then `sender` stays as it was.
+    pub fn hullpippin_sendings_sender(
+        sendings: *mut hullpippin_sendings,
+        thread: u32,
+        index: usize,
+        sender: *mut u32,
+    ) -> bool;
+
+    /// Whether what a thread is told of the object with a ptr goes before what it is told of another: it has sent both,
+    /// and that one later.
+    pub fn hullpippin_sendings_before(sendings: *mut hullpippin_sendings, thread: u32, ptr: u64, other: u64) -> bool;
+
+    /// Lets go of sendings, and empties the handle. Does nothing where it is empty.
+    pub fn hullpippin_free_sendings(sendings: *mut hullpippin_sendings);
 }
