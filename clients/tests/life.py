@@ -7,12 +7,13 @@ import signal
 import socket
 import stat
 import subprocess
+import sys
 import tempfile
 import time
 from contextlib import contextmanager
 
 from builds import CLIENTS
-from stage import BUSY, expect, tail
+from stage import BUSY, comes, expect, tail, with_word
 from suite import test
 
 # users that no machine has, with whom root plays: others than those of a run beside this one, since a user has one folder in /tmp
@@ -341,3 +342,31 @@ def running(build):
         expect(status == 0 and "Binder protocol 8, library protocol" in said, f"--version: {status}, {said}")
         expect(run([program])[0] == 2, "hullpippin-run without words goes on")
     return "it sees that the daemon is there, and refuses a folder that LD_PRELOAD can't name"
+
+
+@test("raw killed check", plain_only=True)
+def killed_check(build):
+    """Tests that are killed outright leave nothing running, neither their daemon nor clients in sessions of their own."""
+    word = f"/of-a-killed-check-{os.getpid()}"  # (PATH is what a stage hands on)
+    words = [f"{CLIENTS}/check", "raw", "--plain", "--only", "raw fuzz", "--seconds", "600", "--bplay", build.judge]
+    with subprocess.Popen([sys.executable, *words], env={**os.environ, "PATH": f"{os.environ['PATH']}:{word}"}, stdin=subprocess.DEVNULL,
+                          stdout=subprocess.DEVNULL, stderr=subprocess.DEVNULL) as check:
+        begun = comes(lambda: {"hullpippind", "fuzz"} <= {command_of(it) for it in with_word(word)} or check.poll() is not None, 60)
+        count = len(with_word(word))
+        check.kill()
+    try:
+        expect(begun and check.returncode == -signal.SIGKILL, f"the tests didn't begin: status {check.returncode}, {count} processes")
+        expect(comes(lambda: not with_word(word), 30), f"left running: {', '.join(map(command_of, with_word(word)))}")
+    finally:
+        for it in with_word(word):
+            os.kill(it, signal.SIGKILL)
+    return f"{count} processes ended with it"
+
+
+def command_of(pid):
+    """A process's name; none where it has ended."""
+    try:
+        with open(f"/proc/{pid}/comm", encoding="utf-8", errors="replace") as file:
+            return file.read().strip()
+    except OSError:
+        return ""
