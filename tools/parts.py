@@ -19,6 +19,7 @@ import time
 
 sys.dont_write_bytecode = True
 import crates  # noqa: E402  (they leave no files behind)
+import leash  # noqa: E402
 import proved  # noqa: E402
 
 ROOT = crates.ROOT
@@ -30,8 +31,8 @@ PLAYER = os.path.relpath(proved.PLAYER, ROOT)
 TRIES = 3
 # seconds for what an ended part has printed to arrive
 LAST_WORDS = 5
-# on a busy machine a part may take longer, but no more than so many times
-MOST_TIMES = 10
+# on a busy machine a part may take longer by the clock, but no more than so many times
+MOST_TIMES = 4
 
 
 class Part:
@@ -93,31 +94,59 @@ def ended(child):
     for number in (signal.SIGTERM, signal.SIGKILL):
         try:
             os.killpg(child.pid, number)
-            child.wait(timeout=20)
+            child.wait(timeout=leash.IN_ORDER + 2 * leash.LEFT_OVER)
         except (ProcessLookupError, subprocess.TimeoutExpired):
             pass
 
 
-def share():
-    """How much of a processor one of many gets here, as the load tells, in which what asks is counted too."""
-    return max(1 / MOST_TIMES, min(1, len(os.sched_getaffinity(0)) / max(os.getloadavg()[0], 1)))
+def threads_of(pids):
+    """How long each thread of these processes has run, and how long it has waited for a processor, in nanoseconds."""
+    found = {}
+    for path in (f"/proc/{pid}/task" for pid in pids):
+        try:
+            for it in os.listdir(path):
+                with open(f"{path}/{it}/schedstat", encoding="ascii") as file:
+                    found[it] = tuple(map(int, file.read().split()[:2]))
+        except OSError:
+            pass  # it has ended meanwhile, or the kernel doesn't tell
+    return found
+
+
+def own_time(passed, before, after):
+    """How much of the seconds that passed would have passed if no thread had waited for a processor."""
+    ran, waited = (sum(it[at] - before.get(name, (0, 0))[at] for name, it in after.items()) / 1e9 for at in (0, 1))
+    return passed * (1 - waited / max(passed, ran + waited))
+
+
+class Clock:
+    """How many seconds a process, with all below it, would have taken of a machine that does nothing else."""
+
+    def __init__(self, top):
+        self.top, self.seen, self.threads, self.taken = top, time.monotonic(), {}, 0.0
+
+    def look(self):
+        now, threads = time.monotonic(), threads_of([self.top, *leash.below(self.top)])
+        self.taken += own_time(now - self.seen, self.threads, threads)
+        self.seen, self.threads = now, threads
 
 
 def waited(child, seconds):
-    """A child's status; None where it took more than so many seconds of a machine that does nothing else."""
-    while seconds > 0:
+    """A child's status; None where it took more than so many seconds of a machine that does nothing else, or a multiple by the clock."""
+    clock, until = Clock(child.pid), time.monotonic() + MOST_TIMES * seconds
+    while clock.taken < seconds and time.monotonic() < until:
         try:
             return child.wait(timeout=1)
         except subprocess.TimeoutExpired:
-            seconds -= share()
+            clock.look()
     return None
 
 
 def watched(part, log):
     """Runs a part, prints what it says and writes it down; what it said, and its status, None where it took too long. What it leaves
-    running is ended, and doesn't keep this waiting."""
+    running is ended with it, and so is the part where this is killed."""
     said = []
-    child = subprocess.Popen(part.words, cwd=ROOT, stdin=subprocess.DEVNULL, stdout=subprocess.PIPE, stderr=subprocess.STDOUT, text=True,
+    words = [sys.executable, f"{ROOT}/tools/leash.py", *part.words]
+    child = subprocess.Popen(words, cwd=ROOT, stdin=subprocess.DEVNULL, stdout=subprocess.PIPE, stderr=subprocess.STDOUT, text=True,
                              errors="replace", start_new_session=True)
 
     def listen():
