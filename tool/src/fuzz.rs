@@ -6,7 +6,7 @@ use crate::chronicle::Chronicle;
 use crate::judging::files::Files;
 use crate::kernel::lines::Lines;
 use crate::kernel::trace::{Reader, Seen};
-use crate::kernel::{counts, format, log, look, names, perfetto, report, state};
+use crate::kernel::{counts, format, log, look, names, perfetto, report, state, zipped};
 use crate::out::Palette;
 use crate::told::Wanted;
 use std::io::Cursor;
@@ -46,7 +46,7 @@ fn read(bytes: &[u8]) {
         b'c' => drop(counts::read(&mut lines(bytes))),
         b'l' => drop(log::read(&mut lines(bytes))),
         b'r' => drop(report::parts(&mut lines(bytes))),
-        b'z' => drop(report::unzip(Cursor::new(bytes))),
+        b'z' => drop(zipped::unzip(Cursor::new(bytes))),
         b'f' => drop(format::of(bytes)),
         b'p' => drop(perfetto::Recording::read(bytes)),
         b'n' => drop(names::said::Said::default().read(&mut lines(bytes))),

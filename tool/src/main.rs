@@ -2,8 +2,11 @@
 //! `hullpippin` looks at recordings of Binder's transactions. It proves and judges nothing: `bplay` does.
 #![warn(rust_2018_idioms)]
 #![cfg_attr(feature = "fuzz", no_main)]
-// What only a screen uses is compiled all the same, so that no feature has to be named where it stands.
-#![cfg_attr(any(feature = "fuzz", not(all(feature = "repl", feature = "top"))), allow(dead_code, unused_imports))]
+// What only a feature uses is read all the same, so that it needn't be named where that stands. What nothing calls isn't compiled.
+#![cfg_attr(
+    any(feature = "fuzz", not(all(feature = "repl", feature = "top", feature = "whole"))),
+    allow(dead_code, unused_imports)
+)]
 
 mod aidl;
 mod arguments;
@@ -205,11 +208,14 @@ fn holders(given: &Holders, out: &mut Out) -> Result<()> {
 
 /// The calls of a journal or of a kernel's trace.
 fn calls(given: &Called, palette: Palette, out: &mut Out) -> Result<()> {
-    if let Some(look) = kernel::look::of_path(&given.journal)? {
-        return look.put_log(&mut out.held);
-    }
-    if let Some(mut trace) = kernel::trace_of(&given.journal)? {
-        return chronicle::put_trace(&mut trace, given.range, &given.wanted, palette, out);
+    #[cfg(feature = "whole")]
+    {
+        if let Some(look) = kernel::look::of_path(&given.journal)? {
+            return look.put_log(&mut out.held);
+        }
+        if let Some(mut trace) = kernel::trace_of(&given.journal)? {
+            return chronicle::put_trace(&mut trace, given.range, &given.wanted, palette, out);
+        }
     }
     let mut player = Player::open(&given.journal, false)?;
     chronicle::put_journal(&mut player, given.range, &given.wanted, palette, out)
@@ -303,6 +309,32 @@ fn talk_rules(ways: rules::Ways, from: impl BufRead, out: &mut Out) -> Result<()
 
 /// The status with which it ends.
 fn run(arguments: &mut Arguments, out: &mut Out) -> Result<u8> {
+    prepare(arguments)?;
+    match &arguments.word {
+        #[cfg(feature = "whole")]
+        Word::Trace(given) if given.kernel => live::kernel::trace(given, Palette::new(arguments.color)).map(|()| 0),
+        Word::Trace(Trace { file: Some(file), wanted, .. }) => {
+            trace_file(file, wanted, Palette::new(arguments.color), out).map(|()| 0)
+        }
+        Word::Trace(given) => live::trace::trace(given, Palette::new(arguments.color)),
+        #[cfg(feature = "top")]
+        Word::Top(given) => live::top::top(given).map(|()| 0),
+        Word::Show(given) => show(given, out, &style_of(arguments, given.bytes)).map(|()| 0),
+        Word::Calls(given) => calls(given, Palette::new(arguments.color), out).map(|()| 0),
+        #[cfg(feature = "whole")]
+        Word::Judge(given) => judging::judge(given, &mut out.held),
+        #[cfg(feature = "whole")]
+        Word::Record(given) => judging::recorder::record(given, &mut out.held),
+        #[cfg(feature = "whole")]
+        _ => look(arguments, out).map(|()| 0),
+        #[cfg(not(feature = "whole"))]
+        _ => bail!(LEFT_OUT),
+    }
+}
+
+/// Takes what a recording is looked at by, and what things are called.
+#[cfg(feature = "whole")]
+fn prepare(arguments: &mut Arguments) -> Result<()> {
     if let Some(path) = arguments.word.journal_mut() {
         if let Some(order) = judging::shown_by(path)? {
             *path = order;
@@ -314,32 +346,37 @@ fn run(arguments: &mut Arguments, out: &mut Out) -> Result<u8> {
     if !arguments.names.is_empty() {
         kernel::names::want(&arguments.names)?;
     }
-    match &arguments.word {
-        Word::Trace(given) if given.kernel => live::kernel::trace(given, Palette::new(arguments.color)).map(|()| 0),
-        Word::Trace(Trace { file: Some(file), wanted, .. }) => {
-            trace_file(file, wanted, Palette::new(arguments.color), out).map(|()| 0)
-        }
-        Word::Trace(given) => live::trace::trace(given, Palette::new(arguments.color)),
-        #[cfg(feature = "top")]
-        Word::Top(given) => live::top::top(given).map(|()| 0),
-        Word::Judge(given) => judging::judge(given, &mut out.held),
-        Word::Record(given) => judging::recorder::record(given, &mut out.held),
-        _ => look(arguments, out).map(|()| 0),
-    }
+    Ok(())
 }
 
-/// What is looked at in journals, and what scripts come to.
+/// What a build without its features says of all that it can't.
+#[cfg(not(feature = "whole"))]
+const LEFT_OUT: &str =
+    "this is what ./try builds, which has show, calls and trace of journals and daemons alone: tool/setup builds all";
+
+/// Sees that nothing is asked for that isn't there.
+#[cfg(not(feature = "whole"))]
+fn prepare(arguments: &mut Arguments) -> Result<()> {
+    let is_of_kernel = matches!(&arguments.word, Word::Trace(given) if given.kernel);
+    if is_of_kernel || arguments.aidl.is_some() || !arguments.names.is_empty() {
+        bail!(LEFT_OUT);
+    }
+    Ok(())
+}
+
+fn style_of(arguments: &Arguments, bytes: usize) -> Style {
+    Style { palette: Palette::new(arguments.color), bytes, row: parcel::row_for(out::width()) }
+}
+
+/// What else is looked at in journals, and what scripts come to.
+#[cfg(feature = "whole")]
 fn look(arguments: &Arguments, out: &mut Out) -> Result<()> {
-    let palette = Palette::new(arguments.color);
-    let row = parcel::row_for(out::width());
-    let style = |bytes| Style { palette, bytes, row };
+    let style = |bytes| style_of(arguments, bytes);
     match &arguments.word {
-        Word::Show(given) => show(given, out, &style(given.bytes)),
         Word::Explain(given) => explain(given, out, &style(1024)),
         Word::State(given) => state(given, out),
         Word::Holders(given) => holders(given, out),
         Word::Leaks(given) => leaks(given, out),
-        Word::Calls(given) => calls(given, Palette::new(arguments.color), out),
         Word::Stats(given) => stats(given, out),
         Word::Slow(given) => slow(given, out),
         Word::Export(given) => export(given, out),
@@ -352,8 +389,7 @@ fn look(arguments: &Arguments, out: &mut Out) -> Result<()> {
             clap_complete::generate(*shell, &mut Arguments::command(), "hullpippin", &mut out.held);
             Ok(())
         }
-        Word::Trace(_) => Ok(()),
-        Word::Judge(_) | Word::Record(_) => Ok(()),
+        Word::Show(_) | Word::Calls(_) | Word::Trace(_) | Word::Judge(_) | Word::Record(_) => Ok(()),
         Word::KernelGuard { instance } => kernel::tracefs::guard(instance),
         #[cfg(feature = "top")]
         Word::Top(_) => Ok(()),

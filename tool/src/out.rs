@@ -1,10 +1,10 @@
 // SPDX-License-Identifier: Apache-2.0 OR MIT
 //! Standard output, or a pager before it; and colours.
-use crossterm::style::{Color, ResetColor, SetForegroundColor};
-use crossterm::terminal::size;
-use crossterm::tty::IsTty;
+use nix::libc::{ioctl, winsize, TIOCGWINSZ};
+use nix::unistd::isatty;
 use std::env;
 use std::io::{self, Write};
+use std::os::unix::io::AsRawFd;
 use std::process::{Child, Command, Stdio};
 
 /// How much is held before it is written.
@@ -35,22 +35,29 @@ const RED: u8 = 160;
 const GREEN: u8 = 28;
 const AMBER: u8 = 130;
 
+/// Whether a person may look at what is written there.
+pub fn is_terminal(output: &impl AsRawFd) -> bool {
+    isatty(output.as_raw_fd()).unwrap_or(false)
+}
+
 /// How wide the terminal is; None where standard output is none.
 pub fn width() -> Option<usize> {
-    let (columns, _) = io::stdout().is_tty().then(size)?.ok()?;
-    Some(usize::from(columns)).filter(|it| *it > 0)
+    let mut size = winsize { ws_row: 0, ws_col: 0, ws_xpixel: 0, ws_ypixel: 0 };
+    // (this call writes a winsize, and keeps nothing of it)
+    let status = unsafe { ioctl(io::stdout().as_raw_fd(), TIOCGWINSZ, &mut size) };
+    (status == 0 && size.ws_col > 0).then(|| usize::from(size.ws_col))
 }
 
 impl Palette {
     fn colours() -> Palette {
-        let of = |colour| SetForegroundColor(Color::AnsiValue(colour)).to_string();
+        let of = |colour: u8| format!("\x1b[38;5;{colour}m");
         Palette {
             place: of(GREY),
             name: of(TEAL),
             refused: of(RED),
             text: of(GREEN),
             about: of(AMBER),
-            plain: ResetColor.to_string(),
+            plain: "\x1b[0m".into(),
         }
     }
 
@@ -61,7 +68,7 @@ impl Palette {
             When::Never => false,
             When::Auto => {
                 let refuses = env::var_os("NO_COLOR").map_or(false, |it| !it.is_empty());
-                !refuses && io::stdout().is_tty() && env::var_os("TERM").map_or(true, |it| it != "dumb")
+                !refuses && is_terminal(&io::stdout()) && env::var_os("TERM").map_or(true, |it| it != "dumb")
             }
         };
         if is_wanted {
@@ -81,7 +88,7 @@ pub struct Out {
 impl Out {
     /// Output by a pager where a person looks, unless the person doesn't want it.
     pub fn new(with_pager: bool) -> Out {
-        let pager = (with_pager && io::stdout().is_tty()).then(start_pager).flatten();
+        let pager = (with_pager && is_terminal(&io::stdout())).then(start_pager).flatten();
         Out { held: Vec::with_capacity(2 * ROOM), pager }
     }
 

@@ -1,6 +1,6 @@
 // SPDX-License-Identifier: Apache-2.0 OR MIT
 //! How far a journal is read, on one line of standard error, for who asks for it.
-use crossterm::tty::IsTty;
+use crate::out::is_terminal;
 use std::io::{self, Write};
 use std::sync::atomic::{AtomicBool, Ordering};
 use std::time::{Duration, Instant};
@@ -29,7 +29,7 @@ impl Progress {
     /// None where nobody wants it.
     pub fn new() -> Option<Progress> {
         IS_WANTED.load(Ordering::Relaxed).then(|| {
-            let (now, is_terminal) = (Instant::now(), io::stderr().is_tty());
+            let (now, is_terminal) = (Instant::now(), is_terminal(&io::stderr()));
             Progress { begun: now, told: now, entries: 0, count: None, is_terminal }
         })
     }

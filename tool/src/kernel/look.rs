@@ -61,7 +61,8 @@ fn open(path: &str, format: Format) -> Result<Look> {
         Format::State | Format::Transactions => look.state = Some(state::read(&mut lines(path)?)?),
         Format::Stats => look.counts = Some(counts::read(&mut lines(path)?)?),
         Format::Log => look.add_log(log::read(&mut lines(path)?)?),
-        Format::Zip => look.add_parts(report::unzipped(path)?)?,
+        #[cfg(feature = "whole")]
+        Format::Zip => look.add_parts(super::zipped::unzipped(path)?)?,
         _ => look.add_parts(report::parts(&mut lines(path)?)?)?,
     }
     Ok(look)

@@ -18,6 +18,8 @@ mod threads;
 pub mod trace;
 pub mod tracefs;
 mod verbs;
+#[cfg(feature = "whole")]
+pub mod zipped;
 
 use crate::following::ObjectId;
 use anyhow::{bail, Result};

@@ -3,16 +3,10 @@
 //! ends it by how long that took, `------ 0.012s was the duration of 'BINDER STATE' ------`; so it is known, and no report of a phone
 //! was at hand.
 use super::lines::Lines;
-use anyhow::{bail, ensure, Context, Result};
-use std::fs::File;
-use std::io::{BufRead, BufReader, Read, Seek};
-use zip::ZipArchive;
+use anyhow::{bail, ensure, Result};
 
-/// No more is read of a report that is zipped, and no more is kept of a part.
-const MOST_TEXT: u64 = 1 << 30;
+/// No more is kept of a part.
 const MOST_PART: usize = 1 << 26;
-/// The file of a zipped report that says which one is the report itself.
-const MAIN: &str = "main_entry.txt";
 
 /// Parts by their headings.
 const HEADINGS: [(&str, Part); 5] = [
@@ -71,48 +65,6 @@ pub fn parts(lines: &mut Lines<'_>) -> Result<Vec<(Part, Vec<u8>)>> {
         bail!("it breaks off within {}", found.last().map_or("?", |it| it.0.name()));
     }
     Ok(found)
-}
-
-/// The report within a zip file.
-pub fn unzipped(path: &str) -> Result<Vec<(Part, Vec<u8>)>> {
-    if path == "-" {
-        bail!("a zip file is read from its end, so it has to be a file");
-    }
-    unzip(BufReader::new(File::open(path)?))
-}
-
-/// The report within what is zipped.
-pub fn unzip(input: impl Read + Seek) -> Result<Vec<(Part, Vec<u8>)>> {
-    let mut archive = ZipArchive::new(input).context("it can't be unzipped")?;
-    let name = main_name(&mut archive)?;
-    let entry = archive.by_name(&name).with_context(|| format!("{name} can't be unzipped"))?;
-    let mut limited = entry.take(MOST_TEXT);
-    let found = {
-        let input: Box<dyn BufRead + '_> = Box::new(BufReader::with_capacity(1 << 16, &mut limited));
-        parts(&mut Lines::new(input)).with_context(|| name.clone())
-    };
-    if limited.limit() == 0 {
-        bail!("{name} has more than {MOST_TEXT} bytes, so it isn't read");
-    }
-    found
-}
-
-/// Which file is the report: the one that is said to be, else the first text that is called so.
-fn main_name<R: Read + Seek>(archive: &mut ZipArchive<R>) -> Result<String> {
-    const MOST_NAME: u64 = 4096;
-    let mut said = String::new();
-    if let Ok(entry) = archive.by_name(MAIN) {
-        entry.take(MOST_NAME).read_to_string(&mut said).with_context(|| MAIN.to_string())?;
-    }
-    let said = said.trim().to_string();
-    let names: Vec<&str> = archive.file_names().collect();
-    let mut texts: Vec<&str> = names.iter().copied().filter(|it| !it.contains('/') && it.ends_with(".txt")).collect();
-    texts.sort_unstable();
-    let is_report = |it: &&&str| it.starts_with("bugreport") || it.starts_with("dumpstate");
-    let found = names.iter().find(|it| **it == said && !said.is_empty()).or_else(|| texts.iter().find(is_report));
-    found
-        .map(|it| it.to_string())
-        .context("there is no bug report in it: no main_entry.txt that names one, no bugreport-*.txt")
 }
 
 #[cfg(test)]
