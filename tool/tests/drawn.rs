@@ -46,6 +46,15 @@ fn sequences_are_as_they_were_drawn() {
     }
 }
 
+/// README's picture is of the recording that stands beside it: a call with its reply, and the one before.
+#[test]
+fn the_picture_is_of_the_kept_recording() {
+    let at = |name: &str| format!("{}/../{name}", env!("CARGO_MANIFEST_DIR"));
+    let journal = at("examples/recorded/first_call.journal");
+    let told = printed(&["diagram", &journal, "--format", "svg", "--from", "72", "--to", "91"]);
+    assert_eq!(told, std::fs::read_to_string(at("docs/diagrams/ping.svg")).expect("the picture"));
+}
+
 fn seat(told: &Value, lane: &Value) -> u64 {
     let lane = lane.as_u64().expect("a lane") as usize;
     told["lanes"][lane]["seat"].as_u64().expect("a seat")
