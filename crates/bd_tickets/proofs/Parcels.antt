@@ -1,6 +1,6 @@
 -- One parcel more or less.
 use Rattle.std.proofs.Common.{◌≡◌, ℕ, ◌+◌, ◌<◌, ◌≤◌, Bool, true, false, List, [], ◌∷◌, ◌++◌, length, drop, get_or, Option, Some, None, zero, suc, refl, sym, ap, ◌∙◌, arith}
-use Rattle.std.specs.Prelude.{◌==◌, remove, find, option_map}
+use Rattle.std.specs.Prelude.{◌==◌, remove, find, option_map, option_to_list, is_some}
 use Rattle.std.proofs.lemmas.Bool.{eqb-true, eq-eqb}
 use Rattle.std.proofs.lemmas.List.{drop_more, drop_all}
 use Rattle.std.proofs.lemmas.List.Sums.{sum_by-append, sum_by-remove}
@@ -76,3 +76,16 @@ others_more xs ys p s e isnt =
     differs : (b : Bool) → (p.step == s) ≡ b → (p.step == s) ≡ false
     differs true f = absurd (isnt (sym (eqb-true p.step s f)))
     differs false f = f
+
+-- what is found once the last parcel was taken was found before
+pub found_before : (xs ys : List Parcel) (o : Option Parcel) (s : ℕ) → xs ≡ ys ++ option_to_list o → is_some (descriptors_of s ys) ≡ true → descriptors_of s ys ≡ descriptors_of s xs
+found_before xs ys o s e found =
+    ap (option_map (λ r. r.descriptors.items)) (sym (find_more ys (option_to_list o) (mapped (find (λ r. r.step == s) ys) found))) ∙ sym (ap (descriptors_of s) e)
+  where
+    mapped : (p : Option Parcel) → is_some (option_map (λ r. r.descriptors.items) p) ≡ true → is_some p ≡ true
+    mapped None f = f
+    mapped (Some p) f = refl
+
+    find_more : (xs zs : List Parcel) → is_some (find (λ r. r.step == s) xs) ≡ true → find (λ r. r.step == s) (xs ++ zs) ≡ find (λ r. r.step == s) xs
+    find_more [] zs f = absurd cc
+    find_more (x ∷ xs) zs f = let rest = find_more xs zs in grind (arith, rest, f)

@@ -102,7 +102,9 @@ impl Tickets {
 
     /// Takes the descriptors of any parcel, as at an end.
     pub fn take_any(&mut self) -> Option<Vec<u32>>
-        ensures { MatchOption result ((d : ℕ) → (held self.new d ≡ held self.old d) × (held self.old d ≡ 0)) (λ ds. (d : ℕ) → held self.old d ≡ held self.new d + count_of d ds.items) }
+        ensures held { MatchOption result ((d : ℕ) → (held self.new d ≡ held self.old d) × (held self.old d ≡ 0)) (λ ds. (d : ℕ) → held self.old d ≡ held self.new d + count_of d ds.items) }
+        // What a step finds from then on it would have found before.
+        ensures others { (s : ℕ) → is_some (descriptors_of s self.new.parcels.items) ≡ true → descriptors_of s self.new.parcels.items ≡ descriptors_of s self.old.parcels.items }
     {
         match self.parcels.pop() {
             Some(parcel) => Some(parcel.descriptors),

@@ -1,6 +1,0 @@
-use Rattle.std.proofs.Common.{◌==◌, ℕ, not, rules, tests}
-use Rattle.std.proofs.lemmas.Fn.{filter_same}
-use Rattle.bd_ring.proofs.ring.remove_from.Goals as goal
-
-pub returns : goal.returns
-returns c = filter_same _ (λ (s : ℕ). not (s == c.args.one)) _ (λ x b f' k. search (rules, tests)) _ _ c.retain.ensures.filtered
