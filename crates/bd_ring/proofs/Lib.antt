@@ -3,3 +3,4 @@ pub mod Before
 pub mod Setting
 pub mod Standing
 pub mod Many
+pub mod Back

@@ -8,7 +8,7 @@ use Rattle.bd_ring.proofs.Setting.{kept, put}
 use Rattle.bd_ring.specs.Turns.{wants, after_enter, after_turn, after_pass}
 use Rattle.bd_ring.specs.Rings.{Orders, with_ring, without_one, next_in as first_of, node_at, is_used, ring_of, next_at, prev_at, spot, placed, blank, Stands}
 
-clash : {A : Type 0} {b : Bool} → b ≡ true → b ≡ false → A
+pub clash : {A : Type 0} {b : Bool} → b ≡ true → b ≡ false → A
 clash a b = absurd cc
 
 -- ---- lists
@@ -44,7 +44,7 @@ one_ring : (l m : ℕ) (r : Option ℕ) → (l == m) ≡ false → is_at l r ≡
 one_ring l m None far on = refl
 one_ring l m (Some y) far on = grind arith
 
-at_self : (l : ℕ) (r : Option ℕ) → r ≡ Some l → is_at l r ≡ true
+pub at_self : (l : ℕ) (r : Option ℕ) → r ≡ Some l → is_at l r ≡ true
 at_self l r e = grind (arith, e)
 
 -- a write of a ring's link is of the same ring's where the ends are the same, and of no other ring's
@@ -408,7 +408,7 @@ lent u p n node = record node { used = u; prev = p; next = n }
 module _ (ns us : List Node) (x : ℕ) (u : Bool) (p n : Option ℕ)
     (writes : (j : ℕ) → node_at us j ≡ cond (nat_lt x (length ns) && (x == j)) (lent u p n (node_at ns x)) (node_at ns j)) where
   -- of others nothing is written
-  apart_from : (j : ℕ) → (x == j) ≡ false → node_at us j ≡ node_at ns j
+  pub apart_from : (j : ℕ) → (x == j) ≡ false → node_at us j ≡ node_at ns j
   apart_from j far = writes j ∙ no (nat_lt x (length ns)) (x == j) far
     where
       no : (a b : Bool) → b ≡ false → cond (a && b) (lent u p n (node_at ns x)) (node_at ns j) ≡ node_at ns j
@@ -453,18 +453,18 @@ module _ (ns us : List Node) (x : ℕ) (u : Bool) (p n : Option ℕ)
 
 -- a node more
 module _ (node : Node) where
-  more_says : {A : Type 0} (g : Node → A) → g node ≡ g blank → (ns : List Node) (j : ℕ) → g (node_at (ns ++ node ∷ []) j) ≡ g (node_at ns j)
+  pub more_says : {A : Type 0} (g : Node → A) → g node ≡ g blank → (ns : List Node) (j : ℕ) → g (node_at (ns ++ node ∷ []) j) ≡ g (node_at ns j)
   more_says g same [] zero = same
   more_says g same [] (suc j) = refl
   more_says g same (n ∷ ns) zero = refl
   more_says g same (n ∷ ns) (suc j) = more_says g same ns j
 
-  more_used : (ns : List Node) (j : ℕ) → is_used (ns ++ node ∷ []) j ≡ false → is_used ns j ≡ false
+  pub more_used : (ns : List Node) (j : ℕ) → is_used (ns ++ node ∷ []) j ≡ false → is_used ns j ≡ false
   more_used [] j free = refl
   more_used (n ∷ ns) zero free = free
   more_used (n ∷ ns) (suc j) free = more_used ns j free
 
-abbrev fresh : Node
+abbrev pub fresh : Node
 fresh = record { used = true; first = None; last = None; ring = None; prev = None; next = None }
 
 pub pushed : (ns : List Node) (f : Orders) → Stands ns f → Stands (ns ++ record { used = true; first = None; last = None; ring = None; prev = None; next = None } ∷ []) f

@@ -1,5 +1,5 @@
 -- Many rings over numbered nodes, and the orders that they stand for. A number is of a ring and of one that stands in a ring.
-use Rattle.std.specs.Prelude.{ℕ, ◌≡◌, ◌==◌, ◌&&◌, Bool, true, false, List, [], ◌∷◌, get_or, Option, Some, None, is_none, if◌then◌else◌}
+use Rattle.std.specs.Prelude.{ℕ, ◌≡◌, ◌==◌, ◌<◌, ◌+◌, ◌⊎◌, ◌&&◌, nat_lt, not, Bool, true, false, List, [], ◌∷◌, length, get_or, Option, Some, None, is_none, if◌then◌else◌}
 use Rattle.bd_chains.specs.{Chain.{is_at, has, distinct, Linked}}
 use Rattle.bd_ring.specs.Turns.{after_leave}
 use Rattle.bd_ring.specs.declared.nodes.Node.{Node}
@@ -81,3 +81,36 @@ pub record Stands (ns : List Node) (f : Orders) : Type 0 where
   pub on : (l x : ℕ) → has x (f l) ≡ is_at l (ring_of ns x)
   -- nobody stands in a ring whose number isn't in use
   pub empty : (l : ℕ) → is_used ns l ≡ false → f l ≡ []
+
+-- ---- numbers that nobody has
+
+-- each number that there is is somebody's
+abbrev pub AllUsed : List Node → Type 0
+AllUsed ns = (k : ℕ) → k < length ns → is_used ns k ≡ true
+
+-- there are as many numbers as before; or one more, where each was somebody's
+abbrev pub GrowsAtNeed : List Node → List Node → Type 0
+GrowsAtNeed ns us = (length us ≡ length ns) ⊎ (AllUsed ns × (length us ≡ length ns + 1))
+
+-- a number that there is is nobody's
+abbrev pub is_free : List Node → ℕ → Bool
+is_free ns k = nat_lt k (length ns) && not (is_used ns k)
+
+-- from one on, each of these names the next
+abbrev pub Leads : List Node → Option ℕ → List ℕ → Type 0
+Leads ns at [] = at ≡ None
+Leads ns at (x ∷ xs) = (at ≡ Some x) × Leads ns (next_at ns x (Some x)) xs
+
+-- The nodes stand for some orders. From the number that was given back last on they lead along all that nobody has, who stand in no ring.
+pub record AreSound (ns : List Node) (free : Option ℕ) : Type 0 where
+  pub orders : Orders
+  pub stands : Stands ns orders
+  pub back : List ℕ
+  pub leads : Leads ns free back
+  pub once : distinct back ≡ true
+  pub all : (k : ℕ) → has k back ≡ is_free ns k
+  pub nowhere : (k : ℕ) → is_used ns k ≡ false → ring_of ns k ≡ None
+
+-- of who stands in no ring nothing is written, and it stands in none
+abbrev pub StaysOut : List Node → List Node → ℕ → Type 0
+StaysOut ns us k = (next_at us k (Some k) ≡ next_at ns k (Some k)) × (ring_of us k ≡ None)

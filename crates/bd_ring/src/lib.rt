@@ -3,11 +3,9 @@
 
 mod laws;
 mod nodes;
-mod ring;
 mod rings;
 #[cfg(test)]
 mod tests;
 
 pub use laws::{each_ring_has_its_turns, nobody_has_more_turns, nobody_has_two_turns_meanwhile};
-pub use ring::Ring;
 pub use rings::Rings;

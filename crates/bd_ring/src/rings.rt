@@ -1,19 +1,20 @@
 //! Many rings: a number is of a ring, and of one that may stand in a ring of another number.
 
-ghost use Rattle.std.specs.Prelude.{ℕ, ◌≡◌, ◌==◌, ◌<◌, ◌++◌, ◌∷◌, [], ◌&&◌, true, false, length, Some, None, IfSome, IfNone, is_none, if◌then◌else◌};
+ghost use Rattle.std.specs.Prelude.{ℕ, ◌≡◌, ◌==◌, ◌<◌, ◌≤◌, ◌^◌, ◌⊎◌, ◌++◌, ◌∷◌, [], ◌&&◌, true, false, length, Some, None, IfSome, IfNone, is_none, vec_len, vec_capacity, if◌then◌else◌};
 ghost use Rattle.bd_keys.specs.Tables.{Makes, Tells};
 ghost use Rattle.bd_ring.specs.Turns.{after_enter, after_turn, after_pass};
-ghost use Rattle.bd_ring.specs.Rings.{Orders, nobody, with_ring, without_one, next_in, is_used, ring_of, next_at, may_enter, Stands};
+ghost use Rattle.bd_ring.specs.Rings.{Orders, nobody, with_ring, without_one, next_in, is_used, ring_of, next_at, may_enter, Stands, AllUsed, AreSound, GrowsAtNeed, StaysOut};
 
-use crate::nodes::{Node, look_at, set_next, set_place, set_prev, write};
+use crate::nodes::{BLANK, Node, look_at, set_next, set_place, set_prev, write};
 use std::alloc::Global;
 
 /// Those that want turns, in many rings, each once at most and in one ring alone.
 #[derive(Drop)]
 pub struct Rings {
     pub(crate) nodes: Vec<Node>,
-    // A number that nobody has any more, if one was given back; its node names the next such one.
+    // The number that was given back last, of those that nobody has; its node names the one before it.
     pub(crate) free: Option<u32>,
+    ghost sound: { ∥ AreSound nodes.items free ∥₁ },
 }
 
 // One comes last in a ring.
@@ -21,6 +22,8 @@ pub struct Rings {
 fn append(nodes: &mut Vec<Node>, ring: u32, one: u32)
     ensures stands { (f : Orders) → Stands nodes.old.items f → is_used nodes.old.items ring ≡ true → one < length nodes.old.items
         → ring_of nodes.old.items one ≡ None → Stands nodes.new.items (with_ring f ring (after_enter (f ring) one)) }
+    ensures idle { (f : Orders) → Stands nodes.old.items f → is_used nodes.old.items ring ≡ true → one < length nodes.old.items
+        → ring_of nodes.old.items one ≡ None → (k : ℕ) → (k ≡ one → ⊥) → ring_of nodes.old.items k ≡ None → StaysOut nodes.old.items nodes.new.items k }
     ensures used { (k : ℕ) → is_used nodes.new.items k ≡ is_used nodes.old.items k }
     ensures len { length nodes.new.items ≡ length nodes.old.items }
 {
@@ -34,6 +37,7 @@ fn append(nodes: &mut Vec<Node>, ring: u32, one: u32)
 #[inline(always)]
 fn leave_ring(nodes: &mut Vec<Node>, one: u32)
     ensures stands { Makes (Stands nodes.old.items) (Stands nodes.new.items) (λ f. without_one f one) }
+    ensures idle { (f : Orders) → Stands nodes.old.items f → (k : ℕ) → ring_of nodes.old.items k ≡ None → StaysOut nodes.old.items nodes.new.items k }
     ensures out { ring_of nodes.new.items one ≡ None }
     ensures used { (k : ℕ) → is_used nodes.new.items k ≡ is_used nodes.old.items k }
     ensures len { length nodes.new.items ≡ length nodes.old.items }
@@ -67,37 +71,34 @@ impl Rings {
         ensures used { IfSome result (λ n. (k : ℕ) → is_used self.new.nodes.items k
             ≡ (if n == k then true else is_used self.old.nodes.items k)) }
         ensures none { IfNone result (self.new.nodes.items ≡ self.old.nodes.items) }
+        // One that was given back comes first: there is none more, and none is refused, while any number is nobody's.
+        ensures again { GrowsAtNeed self.old.nodes.items self.new.nodes.items }
+        ensures all { IfNone result (AllUsed self.old.nodes.items) }
+        // Memory was asked for, and there was no room; or there are no more numbers.
+        ensures grown { IfNone result ((vec_capacity self.old.nodes ≤ vec_len self.old.nodes) ⊎ (2 ^ 32 ≤ vec_len self.old.nodes)) }
     {
-        if let Some(n) = self.free {
-            let node = look_at(&self.nodes, n);
-            if (n as usize) < self.nodes.len() && !node.used && node.ring.is_none() {
-                self.free = node.next;
-                write(
-                    &mut self.nodes,
-                    n,
-                    Node {
-                        used: true,
-                        first: node.first,
-                        last: node.last,
-                        ring: node.ring,
-                        prev: None,
-                        next: None,
-                    },
-                );
-                return Some(n);
-            }
-        }
-        let n = u32::try_from(self.nodes.len()).ok()?;
-        self.nodes
-            .push(Node {
+        let Some(n) = self.free else {
+            let n = u32::try_from(self.nodes.len()).ok()?;
+            self.nodes
+                .push(Node {
+                    used: true,
+                    ..BLANK
+                })
+                .ok()?;
+            return Some(n);
+        };
+        let node = look_at(&self.nodes, n);
+        self.free = node.next;
+        write(
+            &mut self.nodes,
+            n,
+            Node {
                 used: true,
-                first: None,
-                last: None,
-                ring: None,
                 prev: None,
                 next: None,
-            })
-            .ok()?;
+                ..node
+            },
+        );
         Some(n)
     }
 
@@ -118,11 +119,8 @@ impl Rings {
             one,
             Node {
                 used: false,
-                first: node.first,
-                last: node.last,
-                ring: node.ring,
-                prev: node.prev,
                 next: self.free,
+                ..node
             },
         );
         self.free = Some(one);

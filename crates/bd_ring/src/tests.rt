@@ -1,23 +1,26 @@
-//! A ring of three, and rings of rings.
+//! A ring of three, rings of rings, and numbers that come back.
 
-use crate::{Ring, Rings};
+use crate::Rings;
 use std::test::Fail;
 
 #[test]
 fn turns_go_round(rt: HostRuntime) -> Result<(), Fail> {
-    let mut ring = Ring::new(rt.alloc());
-    ring.attach(1).ok().ok_or("memory")?;
-    ring.attach(2).ok().ok_or("memory")?;
-    ring.attach(3).ok().ok_or("memory")?;
-    ring.attach(2).ok().ok_or("memory")?;
-    assert_eq!(rt; ring.take(), Some(1));
-    ring.attach(1).ok().ok_or("memory")?;
-    ring.pass();
-    assert_eq!(rt; ring.take(), Some(3));
-    ring.leave(1);
-    assert!(rt; !ring.wants(1));
-    assert_eq!(rt; ring.take(), Some(2));
-    assert_eq!(rt; ring.take(), None);
+    let mut rings = Rings::new(rt.alloc());
+    let all = rings.add().ok_or("memory")?;
+    let one = rings.add().ok_or("memory")?;
+    let two = rings.add().ok_or("memory")?;
+    let three = rings.add().ok_or("memory")?;
+    assert!(rt; rings.enter(all, one));
+    assert!(rt; rings.enter(all, two));
+    assert!(rt; rings.enter(all, three));
+    assert!(rt; !rings.enter(all, two));
+    assert_eq!(rt; rings.take(all), Some(one));
+    assert!(rt; rings.enter(all, one));
+    assert_eq!(rt; rings.pass(all), Some(two));
+    assert_eq!(rt; rings.take(all), Some(three));
+    rings.leave(one);
+    assert_eq!(rt; rings.take(all), Some(two));
+    assert_eq!(rt; rings.take(all), None);
     Ok(())
 }
 
@@ -41,5 +44,24 @@ fn rings_are_apart(rt: HostRuntime) -> Result<(), Fail> {
     assert!(rt; rings.remove(one));
     assert_eq!(rt; rings.first(user), None);
     assert_eq!(rt; rings.add(), Some(one));
+    Ok(())
+}
+
+#[test]
+fn numbers_come_back_before_the_rings_grow(rt: HostRuntime) -> Result<(), Fail> {
+    let mut rings = Rings::new(rt.alloc());
+    let all = rings.add().ok_or("memory")?;
+    let one = rings.add().ok_or("memory")?;
+    let two = rings.add().ok_or("memory")?;
+    let three = rings.add().ok_or("memory")?;
+    assert!(rt; rings.enter(all, one));
+    assert!(rt; rings.enter(all, two));
+    assert!(rt; rings.remove(one));
+    assert!(rt; rings.remove(three));
+    assert_eq!(rt; rings.pass(all), Some(two));
+    assert_eq!(rt; rings.add(), Some(three));
+    assert_eq!(rt; rings.add(), Some(one));
+    assert_eq!(rt; rings.add(), Some(4));
+    assert_eq!(rt; rings.take(all), Some(two));
     Ok(())
 }
