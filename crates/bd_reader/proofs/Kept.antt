@@ -16,7 +16,6 @@ prompt_of false x y p q = q
 ended_prompt : (s : Reader) → (ended s).is_prompt ≡ true
 ended_prompt s = prompt_of (s.refusals == 0) (record s { calling = fewer s.calling; is_prompt = true }) (record s { refusals = fewer s.refusals; is_prompt = true }) refl refl
 
-
 more_prompt : (code : ℕ) (s : Reader) → s.is_prompt ≡ true → (read_more code s).is_prompt ≡ true
 more_prompt code s p =
     prompt_of (code == 0x7206) (record s { completions = fewer s.completions }) _ p

@@ -318,8 +318,11 @@ back_sound ns us x p free g s used out stands len writes = record {
   orders = g;
   stands = stands;
   back = x ∷ s.back;
-  leads = (refl, subst (λ o. Leads us o s.back) (sym (next_there ns us x false p free lt out len writes))
-      (leads_same ns us free s.back s.leads (λ k on. ap (λ (q : Node). q.next) (elsewhere ns us x false p free lt out len writes k (other k on)))));
+  leads = (
+    refl,
+    subst (λ o. Leads us o s.back) (sym (next_there ns us x false p free lt out len writes))
+        (leads_same ns us free s.back s.leads (λ k on. ap (λ (q : Node). q.next) (elsewhere ns us x false p free lt out len writes k (other k on)))),
+  );
   once = let off = not_back in grind (arith, off, s.once);
   all = λ k. all_so k (x == k) refl ∙ sym (free_so ns us x false p free lt out len writes k);
   nowhere = nowhere_so ns us x false p free lt out len writes s.nowhere;

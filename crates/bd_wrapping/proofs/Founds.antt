@@ -47,8 +47,16 @@ step_again n = omega arith
 trailer_again : (t : Trailer) → IsTrailer t → trailer_at 0 (trailer_bytes t) ≡ t
 unfolding word_at long_at
 trailer_again t h =
-    rw (long_again t.body _ h.body, long_again t.offsets _ h.offsets, long_again t.buffers _ h.buffers, word_again (t.step % 2 ^ 32) _ (omega arith), word_again t.descriptors _ h.descriptors, word_again t.euid _ h.euid,
-    word_again (t.step / 2 ^ 32) _ (omega (arith, h.step)), step_again t.step) refl
+    rw (
+      long_again t.body _ h.body,
+      long_again t.offsets _ h.offsets,
+      long_again t.buffers _ h.buffers,
+      word_again (t.step % 2 ^ 32) _ (omega arith),
+      word_again t.descriptors _ h.descriptors,
+      word_again t.euid _ h.euid,
+      word_again (t.step / 2 ^ 32) _ (omega (arith, h.step)),
+      step_again t.step,
+    ) refl
 
 mark_again : (t : Trailer) → long_at 40 (trailer_bytes t) ≡ mark
 unfolding long_at

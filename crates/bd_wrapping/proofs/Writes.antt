@@ -17,6 +17,6 @@ pub wrapped_by : (laid n : ℕ) (t : Trailer) (old mid new : List ℕ) → n ≡
 wrapped_by laid n t old mid new is le room first second =
     let back : laid + (n - laid) ≡ n = omega arith in
     let all = subst (λ (m : ℕ). mid ≡ take laid old ++ replicate (n - laid) 0 ++ drop m old → new ≡ take m mid ++ trailer_bytes t ++ drop (m + 48) mid
-        → new ≡ take laid old ++ replicate (n - laid) 0 ++ trailer_bytes t ++ drop (m + 48) old) back
-        (behind laid (n - laid) old mid new (trailer_bytes t) (omega arith) refl) first second in
+    → new ≡ take laid old ++ replicate (n - laid) 0 ++ trailer_bytes t ++ drop (m + 48) old) back
+    (behind laid (n - laid) old mid new (trailer_bytes t) (omega arith) refl) first second in
     rw is at all

@@ -27,10 +27,10 @@ invariant_of-self c =
           let there : x < length ds = (let n = c.leave_ring.ensures.len in omega (arith, lt, n)) in
           let used : is_used ds l ≡ true = c.leave_ring.ensures.used l ∙ first_used ns f h.stands l x e in
           let left = kept_sound ns ds s.free (without_one f x) h (c.leave_ring.ensures.stands f h.stands) c.leave_ring.ensures.len c.leave_ring.ensures.used
-              (λ k u. c.leave_ring.ensures.idle f h.stands k (h.nowhere k u)) in
+          (λ k u. c.leave_ring.ensures.idle f h.stands k (h.nowhere k u)) in
           let stands = c.leave_ring.ensures.stands f h.stands in
           kept_sound ds c.append.new.nodes.items s.free (with_ring (without_one f x) l (after_enter (without_one f x l) x)) left
           (c.append.ensures.stands (without_one f x) stands used there c.leave_ring.ensures.out) c.append.ensures.len c.append.ensures.used
           (λ k u. c.append.ensures.idle (without_one f x) stands used there c.leave_ring.ensures.out k
-              (λ is. none-some l (sym (h.nowhere k (sym (c.leave_ring.ensures.used k) ∙ u)) ∙ ap (ring_of ns) is ∙ first_in_ring ns f h.stands l x e)) (left.nowhere k u)));
+          (λ is. none-some l (sym (h.nowhere k (sym (c.leave_ring.ensures.used k) ∙ u)) ∙ ap (ring_of ns) is ∙ first_in_ring ns f h.stands l x e)) (left.nowhere k u)));
     }

@@ -34,7 +34,7 @@ invariant_of-self c =
       sound = ∥∥₁_map s.sound (λ h.
           let g = without_one h.orders x in
           let left = kept_sound ns ds s.free g h (c.leave_ring.ensures.stands h.orders h.stands) c.leave_ring.ensures.len c.leave_ring.ensures.used
-              (λ k e. c.leave_ring.ensures.idle h.orders h.stands k (h.nowhere k e)) in
+          (λ k e. c.leave_ring.ensures.idle h.orders h.stands k (h.nowhere k e)) in
           let stands = lent_stands ds us x false _ s.free writes g (c.leave_ring.ensures.stands h.orders h.stands) c.leave_ring.ensures.out (λ _. ap (without x) (none_first ns h.orders h.stands x none)) in
           back_sound ds us x _ s.free g left (c.leave_ring.ensures.used x ∙ used) c.leave_ring.ensures.out stands c.write.ensures.len writes);
     }
