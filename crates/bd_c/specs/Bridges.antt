@@ -40,11 +40,13 @@ Awaits Goes x y seat status.NoMemory = OnlyWaits x y seat × (at y.bridge.waiter
 Awaits Goes x y seat status.NoSuchSeat = (seats_in x.bridge.waiters ≤ seat) × (y ≡ x)
 Awaits Goes x y seat _ = ⊥
 
--- it waits in a read, and its doorbell is as it was
+-- it waits in a read, and its doorbell is as it was; who didn't wait has none
 pub record BeginsToRead (room : ℕ) (defers leaves : Bool) (old new : Option Waiter) : Type 0 where
   pub reads : option_map (λ (w : Waiter). w.reads) new ≡ Some (Some (record { room = room; defers = defers; leaves = leaves }))
   pub doorbell : IfSome old (λ (o : Waiter). option_map (λ (w : Waiter). w.has_doorbell) new ≡ Some o.has_doorbell)
   pub rung : IfSome old (λ (o : Waiter). option_map (λ (w : Waiter). w.is_rung) new ≡ Some o.is_rung)
+  pub has_none : IsNone old → option_map (λ (w : Waiter). w.has_doorbell) new ≡ Some false
+  pub silent : IsNone old → option_map (λ (w : Waiter). w.is_rung) new ≡ Some false
 
 -- What a number says of what a thread need not be told before the reply to a call of its own: 0, that it is told all; 1, that such may be read
 -- for it meanwhile; 2, the same, and that what can rest is left to it. No other number says anything.
@@ -57,11 +59,12 @@ WaitsByFlag room word x y seat s =
     ((s ≡ status.NoSuchRequest) × (deferring_of word ≡ None) × (y ≡ x))
     ⊎ ((defers leaves : Bool) × (deferring_of word ≡ Some (defers, leaves)) × Awaits (BeginsToRead room defers leaves) x y seat s)
 
--- it has a doorbell, which is silent, and waits in a read as it did
+-- it has a doorbell, which is silent, and waits in a read as it did; who didn't wait waits in none
 pub record GetsDoorbell (old new : Option Waiter) : Type 0 where
   pub has : option_map (λ (w : Waiter). w.has_doorbell) new ≡ Some true
   pub silent : option_map (λ (w : Waiter). w.is_rung) new ≡ Some false
   pub reads : IfSome old (λ (o : Waiter). option_map (λ (w : Waiter). w.reads) new ≡ Some o.reads)
+  pub reads_none : IsNone old → option_map (λ (w : Waiter). w.reads) new ≡ Some None
 
 abbrev pub StopsReading : Option Waiter → Option Waiter → Type 0
 StopsReading old new = new ≡ awakened old

@@ -1,7 +1,7 @@
 -- Rings beside an engine, as C has them.
-use Rattle.std.specs.Prelude.{◌≡◌, ◌==◌, ℕ, Bool, true, false, List, [], Option, Some, None, is_none, is_some, if◌then◌else◌, ◌&&◌}
+use Rattle.std.specs.Prelude.{◌≡◌, ◌==◌, ◌≤◌, ◌^◌, ◌⊎◌, ℕ, Bool, true, false, List, [], Option, Some, None, is_none, is_some, if◌then◌else◌, ◌&&◌, vec_len, vec_capacity}
 use Rattle.bd_ring.specs.Turns.{after_enter, after_turn, after_pass}
-use Rattle.bd_ring.specs.Rings.{Orders, nobody, with_ring, without_one, next_in, is_used, ring_of, next_at, may_enter, Stands}
+use Rattle.bd_ring.specs.Rings.{Orders, nobody, with_ring, without_one, next_in, is_used, ring_of, next_at, may_enter, Stands, AllUsed, GrowsAtNeed}
 use Rattle.bd_ring.specs.declared.rings.Rings.{Rings}
 use Rattle.bd_c.specs.Behind.{Of, IsMade, rings_of}
 use Rattle.bd_c.specs.declared.held.Held.{Held}
@@ -37,16 +37,22 @@ abbrev pub TellsFirst : Option ℕ → ℕ → ℕ → Bool → Type 0
 TellsFirst told old new true = told ≡ Some new
 TellsFirst told old new false = (told ≡ None) × (new ≡ old)
 
--- the number was nobody's, and is the caller's alone; or there was no memory
+-- Memory was asked for, and there was no room; or there are no more numbers. Each that there is was somebody's.
+pub record IsFull (x : Rings) : Type 0 where
+  pub all : AllUsed x.nodes.items
+  pub grown : (vec_capacity x.nodes ≤ vec_len x.nodes) ⊎ (2 ^ 32 ≤ vec_len x.nodes)
+
+-- The number was nobody's, and is the caller's alone; or there was no memory. One that was given back comes before a new one.
 pub record IsAdded (x y : Rings) (number : ℕ) : Type 0 where
   pub fresh : is_somebodys x number ≡ false
   pub alone : ring_of y.nodes.items number ≡ None
   pub numbers : (k : ℕ) → is_somebodys y k ≡ (if number == k then true else is_somebodys x k)
   pub turned : Turned x y (λ f. f)
+  pub again : GrowsAtNeed x.nodes.items y.nodes.items
 
 abbrev pub AddsNumber : Rings → Rings → ℕ → ℕ → Status → Type 0
 AddsNumber x y old new status.Done = IsAdded x y new
-AddsNumber x y old new status.NoMemory = (y.nodes.items ≡ x.nodes.items) × (new ≡ old)
+AddsNumber x y old new status.NoMemory = IsFull x × (y.nodes.items ≡ x.nodes.items) × (new ≡ old)
 AddsNumber x y old new _ = ⊥
 
 pub record Removes (x y : Rings) (number : ℕ) (result : Bool) : Type 0 where
