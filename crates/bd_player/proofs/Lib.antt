@@ -7,3 +7,4 @@ pub mod Says
 pub mod Streams
 pub mod Begun
 pub mod Unread
+pub mod Piles

@@ -10,3 +10,4 @@ pub mod Streams
 pub mod Payloads
 pub mod Certified
 pub mod Answered
+pub mod Piles

@@ -1,9 +1,10 @@
 //! Playing a script with a thread for each seat.
 
-ghost use Rattle.std.specs.Prelude.{◌≡◌, ◌≤◌, ◌⊎◌, ◌++◌, [], ◌∷◌, true, All, IfOk, IfSome};
+ghost use Rattle.std.specs.Prelude.{◌≡◌, ◌≤◌, ◌⊎◌, ◌++◌, [], ◌∷◌, true, map, All, IfOk, IfSome, OnOk};
 ghost use Rattle.atomic_table.specs.Seated.{TableId};
 ghost use Rattle.bd_space.specs.Histories.{IsHistory};
 ghost use Rattle.bd_spelling.specs.Records.{history_in};
+ghost use Rattle.bd_player.specs.Piles.{ArePiles, IsPut};
 
 use crate::faults::{DONE, ProgramFault, tell};
 use crate::playing::{Played, laid, play_lines};
@@ -79,22 +80,35 @@ fn work<D: Desk>(alloc: Global, desk: &D, part: Part, turns: u32) -> Told
 }
 
 // As many piles without a line.
-fn bare_piles(alloc: Global, count: u32) -> Result<Vec<Vec<Line>>, AllocError> {
+fn bare_piles(alloc: Global, count: u32) -> Result<Vec<Vec<Line>>, AllocError>
+    ensures { IfOk result (λ v. ArePiles count [] (map (λ p. p.items) v.items)) }
+{
     let mut piles = Vec::new(alloc);
-    for _ in 0..count {
+    for made in 0..count {
         piles.push(Vec::new(alloc))?;
     }
     Ok(piles)
 }
 
+// A line comes last in the pile of its seat, if that is there, as a line of the first of one seat.
+fn put_line(piles: &mut Vec<Vec<Line>>, line: Line) -> Result<(), AllocError>
+    ensures { OnOk result (IsPut line (map (λ p. p.items) piles.old.items) (map (λ p. p.items) piles.new.items)) }
+{
+    let Some(pile) = piles.get_mut(line.seat as usize) else {
+        return Ok(());
+    };
+    pile.push(Line { seat: 0, ..line })?;
+    Ok(())
+}
+
 // The lines of each seat, in their order, as lines of the first of one seat.
-fn piles_of(alloc: Global, script: Script) -> Result<Vec<Vec<Line>>, AllocError> {
+#[tactic(auto, using(crate::proofs::Piles::begins))]
+fn piles_of(alloc: Global, script: Script) -> Result<Vec<Vec<Line>>, AllocError>
+    ensures { IfOk result (λ v. ArePiles script.seats script.lines.items (map (λ p. p.items) v.items)) }
+{
     let mut piles = bare_piles(alloc, script.seats)?;
     for line in script.lines {
-        let place = line.seat as usize;
-        if place < piles.len() {
-            piles[place].push(Line { seat: 0, ..line })?;
-        }
+        put_line(&mut piles, line)?;
     }
     Ok(piles)
 }
