@@ -2,3 +2,4 @@ pub mod Walks
 pub mod Counts
 pub mod Once
 pub mod Told
+pub mod Choices

@@ -18,11 +18,11 @@ or_right false b e = e
 
 -- what was found is there, and passes
 found : (q r : Sent → Bool) (known : List Sent) (e : Sent) → find q known ≡ Some e → r e ≡ true → list_any r known ≡ true
-found q r [] e is yes = absurd cc
-found q r (x ∷ xs) e is yes = at (q x) is (λ h. found q r xs e h yes)
+found q r [] e is passed = absurd cc
+found q r (x ∷ xs) e is passed = at (q x) is (λ h. found q r xs e h passed)
   where
     at : (b : Bool) → cond b (Some x) (find q xs) ≡ Some e → (find q xs ≡ Some e → list_any r xs ≡ true) → (r x || list_any r xs) ≡ true
-    at true h more = let same : x ≡ e = cc in or_left (r x) (list_any r xs) (ap r same ∙ yes)
+    at true h more = let same : x ≡ e = cc in or_left (r x) (list_any r xs) (ap r same ∙ passed)
     at false h more = or_right (r x) (list_any r xs) (more h)
 
 passes : (q : Sent → Bool) (known : List Sent) (e : Sent) → find q known ≡ Some e → q e ≡ true
