@@ -1065,6 +1065,10 @@ bool hullpippin_tickets_take(hullpippin_tickets *tickets, uint64_t step, uint32_
    False where none is on its way. Takes no memory, and some time where few are. */
 bool hullpippin_tickets_some_step(hullpippin_tickets *tickets, uint64_t *step);
 
+/* How many of the descriptors that came with a request are its own: all of them, as many as it says, or none; the others are closed then.
+   `is_whole` isn't 0 where they came in one piece, and `is_run` where it is run. Needs no tickets. */
+uint32_t hullpippin_descriptors_kept(uint32_t wanted, uint32_t came, uint32_t is_whole, uint32_t is_run);
+
 /* Lets go of tickets, and empties the handle: whatever is still on its way is nobody's then. Does nothing where it is empty. */
 void hullpippin_free_tickets(hullpippin_tickets *tickets);
 
@@ -1074,13 +1078,15 @@ void hullpippin_free_tickets(hullpippin_tickets *tickets);
  * is the caller's own memory, and begins with 0 in each field; the caller tells what happens, and asks what is so.
  *
  *     hullpippin_reader_sent(&reader, HULLPIPPIN_SENT_CALL, answer.stop, answer.number);    .. a command was run ..
- *     hullpippin_reader_read(&reader, code, flags & HULLPIPPIN_TF_ONE_WAY);                 .. a return was read ..
+ *     hullpippin_reader_read(&reader, returns, size);                                       .. returns were read, which are pending then ..
  *     hullpippin_reader_facts(&reader, &pending, &facts);
- *     if (facts.is_whole)
- *         .. the thread's read is answered: hullpippin_reader_told for each return of that, and hullpippin_reader_delivered ..
+ *     if (facts.is_whole) {
+ *         hullpippin_reader_told(&reader, returns, size, room, &told);                      .. the thread is told the first of these ..
+ *         hullpippin_reader_delivered(&reader, told.size < size, 0);                        .. and its read is answered ..
+ *     }
  *
- * Proved is that who has read what can't wait has something to be answered with, whatever it reads after that; and that what was refused of a
- * thread stays so until the thread is told a completion or a refusal.
+ * Proved is that who has read what can't wait has something to be answered with, whatever it reads after that; that what was refused of a
+ * thread stays so until the thread is told that; and that what is told has room.
  */
 
 /* A thread that reads, and what it has yet to read. */
@@ -1090,7 +1096,8 @@ typedef struct {
     uint32_t refusals;    /* refusals that it hasn't read */
     uint32_t completions; /* two-way calls of which it hasn't read that they were taken */
     uint32_t clearings;   /* death notifications of which it hasn't read that they were taken back, at most */
-    uint32_t untold;      /* calls and replies of which it wasn't told that they were taken */
+    uint32_t untold;      /* calls and replies of which it wasn't told that they were taken .. */
+    uint32_t completed;   /* .. and of how many of these it has read that */
     uint32_t refusal;     /* what was refused and isn't told: HULLPIPPIN_REFUSAL_NONE .. */
     uint32_t is_prompt;   /* not 0: it has read, or will, more than what can wait for a reply */
     uint32_t is_behind;   /* not 0: others have handed over some of it, and what the engine has comes with that */
@@ -1113,8 +1120,7 @@ enum {
 
 /* What a thread has read and wasn't told, and its read. */
 typedef struct {
-    uint32_t size;       /* how many bytes of returns .. */
-    uint32_t completed;  /* .. and how many BR_TRANSACTION_COMPLETE and BR_ONEWAY_SPAM_SUSPECT among them */
+    uint32_t size;       /* how many bytes of returns */
     uint32_t room;       /* so many bytes its read has room for */
     uint32_t is_looping; /* not 0: it is in the loop */
 } hullpippin_pending;
@@ -1131,20 +1137,239 @@ typedef struct {
     uint32_t limit; /* of the engine's read for it */
 } hullpippin_facts;
 
+/* What a thread is told of its returns. */
+typedef struct {
+    size_t size;   /* how many bytes of them */
+    bool has_call; /* there is a BR_TRANSACTION or BR_REPLY among these */
+    bool is_all;   /* by these it is told of all that it has sent */
+} hullpippin_returns_told;
+
 /* A command of the thread was run, HULLPIPPIN_SENT_CALL .., with `stop` and `number` of its answer. */
 void hullpippin_reader_sent(hullpippin_reader *reader, uint32_t kind, uint32_t stop, uint32_t number);
 
-/* The thread has read a return of this code. `is_one_way` isn't 0 where it is a one-way call. */
-void hullpippin_reader_read(hullpippin_reader *reader, uint32_t code, uint32_t is_one_way);
+/* The thread has read these returns, as an engine's read gives them: the last of them is BR_TRANSACTION or BR_REPLY, if one is. Tells where that one
+   begins, or else where they end. */
+size_t hullpippin_reader_read(hullpippin_reader *reader, const uint8_t *returns, size_t size);
 
-/* The thread is told a return of this code. Whether it is told by that of all that it has sent. */
-bool hullpippin_reader_told(hullpippin_reader *reader, uint32_t code);
+/* The thread is told so many of its returns as a read with so much room has room for: one more while 76 bytes are left. */
+void hullpippin_reader_told(hullpippin_reader *reader, const uint8_t *returns, size_t size, uint32_t room, hullpippin_returns_told *told);
 
 /* A read of the thread is answered. `is_left` isn't 0 where it has read more than it is told, `is_ready` where the engine has more for it. */
 void hullpippin_reader_delivered(hullpippin_reader *reader, uint32_t is_left, uint32_t is_ready);
 
 /* Tells what is so of the thread. */
 void hullpippin_reader_facts(const hullpippin_reader *reader, const hullpippin_pending *pending, hullpippin_facts *facts);
+
+/* One of these alone: `is_there`; `is_whole`; and `limit`, or 0 where its read has no room. */
+bool hullpippin_reader_is_there(const hullpippin_reader *reader, const hullpippin_pending *pending);
+bool hullpippin_reader_is_whole(const hullpippin_reader *reader, const hullpippin_pending *pending);
+uint32_t hullpippin_reader_limit(const hullpippin_reader *reader, const hullpippin_pending *pending);
+
+/*
+ * Waiting threads: which threads a bridge knows, and when each read is answered with what. A program that sits between a bridge and its clients'
+ * threads keeps one hullpippin_waits for each thread, zeroed at first. For each process it also keeps a list of idle threads: those in the loop that
+ * serve nothing and are in no call. Whatever arrives for one of them arrives for the process, so the bridge has to know only the first one on the
+ * list. Whenever a thread begins to wait differently, or another one becomes the first, the program asks where the thread stands now, and which
+ * calls of the bridge to make:
+ *
+ *     place = hullpippin_waits_note(&waits, &facts, reader.calling, has_own, is_alone, is_ending);
+ *     .. the thread leaves the list, and comes into it at that place ..
+ *     if (waits.calls.stops_waiting) hullpippin_bridge_stop_waiting(&live, seat); ..      .. and so on, in the order of the calls' fields ..
+ *
+ * The thread that was first hands over, and the new first one takes over; then both have calls of their own to be made. After each call you note it in
+ * `told`, and clear it in `calls`.
+ *
+ * Proved: the bridge knows each thread that waits in a read, or one of its process that stands before it. Of all threads on a list whose first one
+ * waits in a read it knows exactly one. Once the calls are made it knows what it should. A read that may not wait comes back, and a read that has
+ * an answer gets it. No process is asked for more threads than it allows.
+ */
+
+/* What a bridge is to be told of a thread by: which calls of it, in this order. Of the first two there is one at most. */
+typedef struct {
+    bool stops_waiting; /* hullpippin_bridge_stop_waiting */
+    bool stops_reading; /* hullpippin_bridge_stop_reading */
+    bool gives_bell;    /* hullpippin_bridge_give_doorbell */
+    bool reads;         /* hullpippin_bridge_wait, with .. */
+    uint32_t limit;     /* .. this room .. */
+    uint32_t defers;    /* .. and HULLPIPPIN_TELLS_ALL or HULLPIPPIN_LEAVES */
+} hullpippin_calls;
+
+/* What a bridge was told of a thread. */
+typedef struct {
+    bool has_bell;   /* it has a doorbell */
+    bool reads;      /* it waits in a read, with .. */
+    uint32_t limit;  /* .. this room .. */
+    uint32_t defers; /* .. and that much it need not be told */
+} hullpippin_told;
+
+/* How a thread waits. */
+typedef struct {
+    bool has_seat;          /* it has a seat */
+    bool polls;             /* it has a doorbell */
+    bool is_reading;        /* it waits in a read .. */
+    bool is_woken;          /* .. and is about to be answered */
+    bool is_idle;           /* it stands on the list of its process .. */
+    bool is_herald;         /* .. and is the one there that the bridge is told of */
+    bool rings;             /* its doorbell rings, as the bridge has told */
+    hullpippin_told told;   /* what the bridge was told */
+    hullpippin_calls calls; /* what it is to be told */
+} hullpippin_waits;
+
+/* Where a thread stands on the list of its process. */
+enum {
+    HULLPIPPIN_PLACE_NOWHERE = 0,
+    HULLPIPPIN_PLACE_FIRST = 1,
+    HULLPIPPIN_PLACE_LAST = 2,
+};
+
+/* What is done about a thread. */
+enum {
+    HULLPIPPIN_DO_NOTHING = 0,
+    HULLPIPPIN_DO_NOTE = 1,   /* it waits otherwise than before: hullpippin_waits_note */
+    HULLPIPPIN_DO_FETCH = 2,  /* what is left of its calls and replies is read too, and it is asked again */
+    HULLPIPPIN_DO_ANSWER = 3, /* its read is answered */
+    HULLPIPPIN_DO_QUEUE = 4,  /* its read is answered once the doorbells of its process are right; until then it is woken */
+    HULLPIPPIN_DO_FAIL = 5,   /* its read is answered with what has failed */
+};
+
+/* What a read of the engine's has got. */
+enum {
+    HULLPIPPIN_TOOK_SOMETHING = 0,
+    HULLPIPPIN_TOOK_NOTHING = 1,
+    HULLPIPPIN_TOOK_FAILED = 2, /* it couldn't be made, or taken */
+};
+
+/* What is done where the bridge has told of a thread's doorbell. */
+enum {
+    HULLPIPPIN_HEARD_RINGS = 0,   /* it rings, or is silent */
+    HULLPIPPIN_HEARD_FETCHES = 1, /* the next of what a call has left is read: where there was some, hullpippin_waits_tell_anew; else it rings */
+    HULLPIPPIN_HEARD_FULL = 2,    /* its read has no room for what is there: it is answered, and it is asked again */
+};
+
+/* The thread waits differently from now on. Take it off its process's list first. The answer says where it goes on that list now, and `calls` has
+   what to tell the bridge. `has_own` isn't 0 if the thread has something of its own to read (hullpippin_live_unread_of_thread); ask that only of a
+   thread with a doorbell. `is_alone` isn't 0 if nobody else is on the list, `is_ending` if the process ends. */
+uint32_t hullpippin_waits_note(hullpippin_waits *waits, const hullpippin_facts *facts, uint32_t calling, uint32_t has_own, uint32_t is_alone,
+                               uint32_t is_ending);
+
+/* Whether the first thread on a process's list becomes the one that the bridge knows. `is_same` isn't 0 if it already is. */
+bool hullpippin_waits_herald_changes(uint32_t is_same, uint32_t is_ending);
+
+/* The thread is the one that the bridge knows from now on. */
+void hullpippin_waits_take_over(hullpippin_waits *waits, const hullpippin_facts *facts, uint32_t calling, uint32_t has_own);
+
+/* Another thread is the one from now on. If this one has something of its own, it leaves the list, and the bridge goes on knowing it: `is_idle` is false. */
+void hullpippin_waits_hand_over(hullpippin_waits *waits, uint32_t has_own);
+
+/* The bridge is told of the thread anew, as if it knew nothing of it. */
+void hullpippin_waits_tell_anew(hullpippin_waits *waits, const hullpippin_facts *facts, uint32_t calling, uint32_t has_own);
+
+/* Whether the thread's doorbell should ring. `all_ring` isn't 0 if the bell of its process's first idle thread rings, `is_there` if the thread's read
+   has an answer. */
+bool hullpippin_waits_ring(const hullpippin_waits *waits, uint32_t all_ring, uint32_t is_there);
+
+/* What to do with a thread for which the engine was read (HULLPIPPIN_TOOK_SOMETHING and its like). The others aren't 0 if: the bridge has woken the thread
+   (`wakes`), its reader's `is_behind` is set, it has nothing to be told (`is_empty`), a thread of its process polls (`somebody_polls`). */
+uint32_t hullpippin_waits_taken(uint32_t outcome, uint32_t wakes, uint32_t is_behind, uint32_t is_empty, uint32_t somebody_polls);
+
+/* What to do with a thread to which another thread's read has brought something. `is_whole` is that of its facts. */
+uint32_t hullpippin_waits_touched(const hullpippin_waits *waits, uint32_t is_whole, uint32_t somebody_polls);
+
+/* What to do when the bridge says that a thread's doorbell rings, or is silent: HULLPIPPIN_HEARD_RINGS and its like. */
+uint32_t hullpippin_waits_heard(const hullpippin_waits *waits, const hullpippin_facts *facts, uint32_t rings, uint32_t is_there);
+
+/* Whether the thread's read, which may have an answer by now, is answered. */
+bool hullpippin_waits_answered(const hullpippin_waits *waits, uint32_t is_there);
+
+/* How a read begins. */
+enum {
+    HULLPIPPIN_READ_WAITS = 0,
+    HULLPIPPIN_READ_LOOKS = 1,      /* it fetches if the engine has something for it (hullpippin_live_ready), and else waits */
+    HULLPIPPIN_READ_COMES_BACK = 2, /* it is answered with what there is: it reads until facts.is_whole, or the engine has nothing more */
+    HULLPIPPIN_READ_FETCHES = 3,    /* the engine has something for it: it reads once, and then on like that */
+};
+
+/* How a thread's read begins. `size` is how many bytes of returns it has read and wasn't told. `is_there` isn't 0 if these, or what its process has taken
+   back, answer the read; `may_wait` if the read may wait; `is_to_return` if it has to come back at once. */
+uint32_t hullpippin_read_begins(const hullpippin_reader *reader, uint32_t size, uint32_t is_there, uint32_t may_wait, uint32_t is_to_return);
+
+/* What has become of a request once its commands have run and its read has begun. */
+typedef struct {
+    bool is_put_off;   /* it goes on later */
+    bool reads;        /* it has begun a read .. */
+    bool is_reading;   /* .. that isn't answered yet */
+    bool has_failed;   /* its read couldn't be made, or the bridge couldn't be told */
+    bool is_at_once;   /* its read didn't begin with waiting */
+    bool may_wait;     /* as when it began .. */
+    bool is_to_return; /* .. and as it is now */
+    bool is_there;     /* it has something to be answered with; looked at where it is at once */
+} hullpippin_ending;
+
+/* How a request ends. */
+enum {
+    HULLPIPPIN_REQUEST_RESTS = 0,       /* it isn't answered now */
+    HULLPIPPIN_REQUEST_GOES_ON = 1,     /* it goes on later */
+    HULLPIPPIN_REQUEST_TELLS = 2,       /* it is answered with what its commands have come to */
+    HULLPIPPIN_REQUEST_FAILS = 3,       /* it is answered with why its read failed */
+    HULLPIPPIN_REQUEST_ANSWERS = 4,     /* its read is answered with what there is */
+    HULLPIPPIN_REQUEST_WOULD_BLOCK = 5, /* .. with EAGAIN */
+    HULLPIPPIN_REQUEST_WAITS = 6,       /* it waits from now on; where the bridge can't be told, it is answered with ENOMEM */
+};
+
+/* How a request ends: HULLPIPPIN_REQUEST_RESTS and its like. */
+uint32_t hullpippin_request_ends(const hullpippin_ending *ending);
+
+/* What to do with a request that waits, in its read or before it begins, when its thread wants the answer now. */
+enum {
+    HULLPIPPIN_CANCEL_RESTS = 0,
+    HULLPIPPIN_CANCEL_COMES_BACK = 1, /* what the engine has is read, and the read answered with what there is */
+    HULLPIPPIN_CANCEL_INTERRUPTS = 2, /* its read is answered with EINTR */
+    HULLPIPPIN_CANCEL_REFUSES = 3,    /* it isn't begun, and answered with EINTR */
+};
+
+/* The same. `why` is 1 if a signal has come, 2 if the read has to come back; any other number does nothing. */
+uint32_t hullpippin_request_cancels(uint32_t is_reading, uint32_t why);
+
+/* A death notification that a process has taken back, and what else its thread has to read. */
+typedef struct {
+    uint64_t place;  /* of the step that took it back */
+    uint64_t oldest; /* of the oldest that is unread of the process .. */
+    bool has_oldest; /* .. if there is anything */
+    bool has_own;    /* the thread has something of its own to read */
+} hullpippin_cleared;
+
+/* Whether the thread is told of that notification next. */
+bool hullpippin_cleared_next(const hullpippin_cleared *cleared, const hullpippin_facts *facts);
+
+/* Whether the thread's read has an answer, be it that notification. */
+bool hullpippin_cleared_there(const hullpippin_cleared *cleared, const hullpippin_facts *facts);
+
+/* Whether a thread that takes a notification back itself is told of that at once, and not with a reply. */
+enum {
+    HULLPIPPIN_CLEARED_IS_NOT_TOLD = 0,
+    HULLPIPPIN_CLEARED_IS_TOLD = 1,
+    HULLPIPPIN_CLEARED_LOOKS_ON = 2, /* the next item of its list tells */
+};
+
+/* The same, by one item of the thread's list. Ask for each `index` from 0; `is_item` isn't 0 if there is such an item, and `kind` is its kind. */
+uint32_t hullpippin_cleared_unread(uint32_t is_item, uint32_t kind, size_t index);
+
+/* How many threads a process may be asked for. */
+typedef struct {
+    uint32_t max;       /* so many .. */
+    uint32_t requested; /* .. of which so many are still to come .. */
+    uint32_t started;   /* .. and so many have */
+} hullpippin_loopers;
+
+/* The first code of a read's answer: BR_NOOP or BR_SPAWN_LOOPER, or 0 if `room` is too small for either. `is_looper` isn't 0 if the thread is in the loop,
+   `somebody_waits` if another thread of its process waits in a read for what comes to the process. */
+uint32_t hullpippin_loopers_answer(hullpippin_loopers *loopers, uint32_t room, uint32_t is_looper, uint32_t somebody_waits);
+
+/* A thread has run the command with this code: BC_REGISTER_LOOPER, BC_ENTER_LOOPER or BC_EXIT_LOOPER. */
+void hullpippin_loopers_attach(hullpippin_loopers *loopers, uint32_t code);
+
+/* Whether a thread that runs such a command is in the loop afterwards. */
+bool hullpippin_loopers_enter(uint32_t code);
 
 /*
  * Rings: whose turn it is, among those that share something. Each is known by a number, which is of a ring too: of those below it. So

@@ -57,6 +57,14 @@ static bool none_is_left(hullpippin_tickets *tickets)
     return is(!hullpippin_tickets_some_step(tickets, &step) && step == FAR + 3, "a parcel is left");
 }
 
+/* What comes with a request is its own as a whole, or not at all. */
+static bool is_whole(void)
+{
+    return is(hullpippin_descriptors_kept(2, 2, 1, 1) == 2 && !hullpippin_descriptors_kept(2, 3, 1, 1) && !hullpippin_descriptors_kept(3, 2, 1, 1)
+                  && !hullpippin_descriptors_kept(2, 2, 0, 1) && !hullpippin_descriptors_kept(2, 2, 1, 0) && !hullpippin_descriptors_kept(0, 0, 1, 1),
+              "a request keeps others than its own");
+}
+
 static bool run(hullpippin_tickets *tickets)
 {
     return is_done(hullpippin_tickets_new(tickets)) && is(hullpippin_tickets_new(tickets) == HULLPIPPIN_MISUSE, "a full handle is filled")
@@ -66,7 +74,7 @@ static bool run(hullpippin_tickets *tickets)
 int main(void)
 {
     hullpippin_tickets tickets = HULLPIPPIN_NO_TICKETS;
-    bool done = run(&tickets);
+    bool done = run(&tickets) && is_whole();
     hullpippin_free_tickets(&tickets);
     done = done && is(!tickets.at, "what was let go of is there") && is_gone(&tickets, 3)
            && is(hullpippin_tickets_put(&tickets, 3, first, 3) == HULLPIPPIN_MISUSE, "an empty handle takes descriptors");

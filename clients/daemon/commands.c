@@ -11,9 +11,6 @@
 
 #define OWN_SEAT 0u
 
-/* So much of what a thread has unread is looked at for a death notification that it has taken back. */
-#define UNREAD_MOST 16u
-
 /* A process that reads of no death notification that it has taken back can't take back more than these. */
 #define CLEARED_MOST 65536u
 
@@ -170,20 +167,17 @@ static int run_free(struct run *run, const uint8_t *payload)
     return command_free(run->thread, pointer);
 }
 
-/* Loopers of both kinds are in the engine's loop. One that was asked for by BR_SPAWN_LOOPER is counted. */
+/* Loopers of both kinds are in the engine's loop, or of neither, as the library has it. */
 static int run_looper(struct run *run, uint32_t code)
 {
-    struct process *process = run->thread->process;
-    uint32_t command = code == BC_EXIT_LOOPER ? BC_EXIT_LOOPER : BC_ENTER_LOOPER;
+    bool enters = hullpippin_loopers_enter(code);
+    uint32_t command = enters ? BC_ENTER_LOOPER : BC_EXIT_LOOPER;
     int error = engine_command(run->engine, run->thread->seat, &command, sizeof command);
     if (error)
         return error;
-    run->thread->is_looper = command == BC_ENTER_LOOPER;
-    run->thread->has_looped = run->thread->has_looped || run->thread->is_looper;
-    if (code == BC_REGISTER_LOOPER && process->requested) {
-        process->requested--;
-        process->started++;
-    }
+    run->thread->is_looper = enters;
+    run->thread->has_looped = run->thread->has_looped || enters;
+    hullpippin_loopers_attach(&run->thread->process->loopers, code);
     return 0;
 }
 
@@ -221,17 +215,16 @@ static int clear_for_process(struct run *run, const uint8_t *command, uint32_t s
     return error ? error : left;
 }
 
-/* Whether the thread's list has that a notification was taken back. Where much is unread it is taken to be so. */
+/* Whether the thread's list tells, as the library looks through it, that a notification was taken back. */
 static bool is_clearing_unread(const struct run *run)
 {
-    hullpippin_work work;
-    for (size_t index = 0; index < UNREAD_MOST; index++) {
-        if (!hullpippin_live_unread_of_thread(&run->engine->live, run->thread->seat, index, &work))
-            return false;
-        if (work.kind == HULLPIPPIN_CLEARED)
-            return true;
+    hullpippin_work work = {0};
+    uint32_t unread = HULLPIPPIN_CLEARED_LOOKS_ON;
+    for (size_t index = 0; unread == HULLPIPPIN_CLEARED_LOOKS_ON; index++) {
+        bool is_item = hullpippin_live_unread_of_thread(&run->engine->live, run->thread->seat, index, &work);
+        unread = hullpippin_cleared_unread(is_item, work.kind, index);
     }
-    return true;
+    return unread == HULLPIPPIN_CLEARED_IS_TOLD;
 }
 
 /* Takes a death notification back; a thread that is told of it is told at once, and not with a reply. */
@@ -321,8 +314,11 @@ static bool is_to_stop(const struct run *run, const uint8_t *rest, uint32_t left
 {
     struct turns *turns = &run->engine->loop.turns;
     uint32_t code = 0;
-    memcpy(&code, rest, left < sizeof code ? 0 : sizeof code);
-    return turns_is_over(turns) && (code != BC_FREE_BUFFER || turns_has_made_steps(turns));
+    if (!turns_is_over(turns))
+        return false;
+    if (left >= sizeof code)
+        memcpy(&code, rest, sizeof code);
+    return code != BC_FREE_BUFFER || turns_has_made_steps(turns);
 }
 
 int commands_run(struct thread *thread, const uint8_t *stream, uint32_t size, struct hand *hand)

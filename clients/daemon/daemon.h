@@ -804,7 +804,7 @@ struct process {
     uint64_t opened;      /* else by the step at this place */
     struct window window;
     uint32_t thread_count;
-    uint32_t max_threads, requested, started; /* for BR_SPAWN_LOOPER: the most threads, those asked for, those that came */
+    hullpippin_loopers loopers; /* for BR_SPAWN_LOOPER */
     struct cleared cleared;
     bool detects_spam;    /* it is told of its own one-way flooding; before its mmap: will be */
     struct giving giving;
@@ -908,11 +908,8 @@ struct thread {
     struct writing *writing;   /* a write that takes more than one turn; NULL: none */
     uint32_t owed;             /* of all that the reader has so many count in its process's share */
 
-    bool is_waiting;           /* it waits in a read for something to come */
-    uint32_t room;             /* how many bytes of returns that read has room for */
-    uint32_t told;             /* what the bridge knows of it (waiting.c) .. */
-    uint32_t limit, defers;    /* .. of its read: with which limit it is made, and what it need not be told before a reply */
-    bool rings;                /* what the bridge has told its bell */
+    hullpippin_waits waits;    /* whether it waits in a read, and what the bridge knows of that (waiting.c) */
+    uint32_t room;             /* how many bytes of returns its read has room for */
     struct page_answer answer; /* what its request has come to so far */
 
     int doorbell, doorbell_end; /* ours and the client's; -1: it has none */
@@ -1048,8 +1045,8 @@ void waiting_stop(struct thread *thread);
 void waiting_woken(struct thread *thread);
 /* It is about to have no seat any more. */
 void waiting_forget(struct thread *thread);
-/* The thread of the process that reads next what comes to the process; NULL where none waits for it in a read. */
-struct thread *waiting_one(const struct process *process);
+/* The first of the process's idle threads, or NULL: if that waits in a read, it reads next what comes to the process. */
+struct thread *waiting_first(const struct process *process);
 /* Puts the thread's doorbell right by what the bridge has told .. */
 void waiting_ring(struct thread *thread);
 /* .. and those of all threads that get what comes to the process. */

@@ -25,6 +25,7 @@ bool doorbell_make(struct thread *thread)
     thread->doorbell = ends[0];
     thread->doorbell_end = ends[1];
     thread->is_rung = false;
+    thread->waits.polls = true;
     thread->process->pollers++;
     return true;
 }
@@ -45,6 +46,7 @@ void doorbell_free(struct thread *thread)
 {
     if (thread->doorbell >= 0) {
         account_give(thread->process->account, SHARED_DESCRIPTORS, DOORBELL_DESCRIPTORS);
+        thread->waits.polls = false;
         thread->process->pollers--;
     }
     descriptor_end(&thread->doorbell);

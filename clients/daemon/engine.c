@@ -252,7 +252,7 @@ int engine_look(struct engine *engine, hullpippin_signal *signal)
     hullpippin_bridge_settle(&engine->live, LOOKS_OF_ONE_CALL, signal);
     if (signal->kind == HULLPIPPIN_SIGNAL_READ) {
         step.seat = signal->seat;
-        step.limit = engine->lent[signal->seat]->limit;
+        step.limit = engine->lent[signal->seat]->waits.told.limit;
         engine->answer = signal->answer;
         fetch_returns(engine, signal->status == HULLPIPPIN_DONE && signal->answer.kind == HULLPIPPIN_GOT);
         error = stepped(engine, &step, signal->status);

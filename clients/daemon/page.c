@@ -62,20 +62,20 @@ void page_interrupt(struct thread *thread, int error)
     answer_error(thread, error);
 }
 
-/* Fetches the descriptors that come with a request. */
-static int fetch_descriptors(struct thread *thread, uint32_t wanted, struct hand *hand)
+/* Fetches the descriptors that come with a request, of which the library says how many it keeps. */
+static int fetch_descriptors(struct thread *thread, uint32_t wanted, bool is_run, struct hand *hand)
 {
     uint32_t told;
     hand->count = hand->taken = 0;
     if (!wanted)
         return 0;
     int received = packet_receive(thread->link.fd, &told, sizeof told, hand->fds, DESCRIPTORS_MAX, &hand->count, MSG_DONTWAIT);
-    if (received == 1 && hand->count == wanted)
-        return 0;
     if (received < 0 && errno == EMFILE)
         return EMFILE;
-    descriptors_close(hand->fds, hand->count);
-    return EINVAL;
+    uint32_t kept = hullpippin_descriptors_kept(wanted, hand->count, received == 1, is_run);
+    descriptors_close(hand->fds + kept, hand->count - kept);
+    hand->count = kept;
+    return kept == wanted ? 0 : EINVAL;
 }
 
 static void close_left(struct hand *hand)
@@ -83,12 +83,11 @@ static void close_left(struct hand *hand)
     descriptors_close(hand->fds + hand->taken, hand->count - hand->taken);
 }
 
-/* Closes the descriptors that came with a request that isn't run: else the thread's next request would get them. */
+/* The request isn't run: it keeps none. */
 static void drop_descriptors(struct thread *thread, uint32_t wanted)
 {
     struct hand hand;
-    if (!fetch_descriptors(thread, wanted, &hand))
-        close_left(&hand);
+    fetch_descriptors(thread, wanted, false, &hand);
 }
 
 void page_refuse(struct thread *thread, int error)
@@ -135,7 +134,7 @@ void page_forget(struct thread *thread)
 }
 
 /* Runs the write half, or what is left of it, and begins the read half. */
-static int write_on(struct thread *thread, struct writing *writing)
+static inline int write_on(struct thread *thread, struct writing *writing)
 {
     const struct page_request *request = &writing->request;
     int error = commands_run(thread, writing->stream, request->stream_size, &writing->hand);
@@ -143,7 +142,7 @@ static int write_on(struct thread *thread, struct writing *writing)
         return put_off(thread, writing);
     close_left(&writing->hand);
     if (!error && request->room) {
-        thread->is_waiting = true;
+        thread->waits.is_reading = true;
         thread->room = request->room;
     }
     return error;
@@ -155,7 +154,7 @@ static int write_read(struct thread *thread, const struct page_request *request)
     if (request->stream_size > PAGE_STREAM || request->room > PAGE_RETURNS)
         return EINVAL;
     writing.request = *request;
-    int error = fetch_descriptors(thread, request->descriptors, &writing.hand);
+    int error = fetch_descriptors(thread, request->descriptors, true, &writing.hand);
     if (error)
         return error;
     if (request->stream_size)
@@ -270,16 +269,22 @@ static void come_back(struct thread *thread)
     settle_some(engine);
 }
 
-/* A thread that was interrupted while its request waits gets its answer. One that is to come back and has no seat yet waits for that. */
+_Static_assert(CANCEL_INTERRUPTED == 1 && CANCEL_RETURN == 2, "hullpippin_request_cancels takes a page's word as it is");
+
+/* A thread that was interrupted while its request waits. */
 static void cancel(struct thread *thread)
 {
-    uint32_t why = atomic_load(&thread->page->cancel);
-    if (why == CANCEL_RETURN && thread->is_waiting)
+    switch (hullpippin_request_cancels(thread->waits.is_reading, atomic_load(&thread->page->cancel))) {
+    case HULLPIPPIN_CANCEL_COMES_BACK:
         come_back(thread);
-    else if (why == CANCEL_INTERRUPTED && thread->is_waiting)
+        break;
+    case HULLPIPPIN_CANCEL_INTERRUPTS:
         page_interrupt(thread, EINTR);
-    else if (why == CANCEL_INTERRUPTED)
+        break;
+    case HULLPIPPIN_CANCEL_REFUSES:
         page_refuse(thread, EINTR);
+        break;
+    }
 }
 
 static bool is_ready(struct thread *thread)
@@ -289,22 +294,20 @@ static bool is_ready(struct thread *thread)
     return hullpippin_live_ready(&engine->live, thread->seat);
 }
 
-/* Why the thread's read needs no waiting: it has something for sure; or what it has by now is to be told it, be it nothing. */
-enum at_once { WAITS, HAS_SOMETHING, COMES_BACK };
-
-/* Of what it has brought about itself it is known that it is there; who waits for a reply is the bridge's. */
-static enum at_once is_at_once(struct thread *thread, uint32_t flags)
+/* How the thread's read begins, as the library says: HULLPIPPIN_READ_WAITS .. */
+static uint32_t begin_read(struct thread *thread, uint32_t flags)
 {
-    if (thread->reader.is_prompt && thread->reader.untold && !thread->pending_size)
-        return HAS_SOMETHING;
-    if (flags & PAGE_NONBLOCK || returns_are_there(thread) || is_to_return(thread))
-        return COMES_BACK;
-    return !thread->reader.calling && is_ready(thread) ? HAS_SOMETHING : WAITS;
+    uint32_t begins = hullpippin_read_begins(&thread->reader, thread->pending_size, returns_are_there(thread), !(flags & PAGE_NONBLOCK),
+                                             is_to_return(thread));
+    if (begins != HULLPIPPIN_READ_LOOKS)
+        return begins;
+    return is_ready(thread) ? HULLPIPPIN_READ_FETCHES : HULLPIPPIN_READ_WAITS;
 }
 
-static int read_at_once(struct thread *thread, bool has_something)
+/* It is read until all is there that is told together. */
+static int read_at_once(struct thread *thread, uint32_t begins)
 {
-    int error = has_something ? returns_fetch(thread) : 0;
+    int error = begins == HULLPIPPIN_READ_FETCHES ? returns_fetch(thread) : 0;
     while (!error && !returns_are_whole(thread) && is_ready(thread))
         error = returns_fetch(thread);
     return error == EAGAIN ? 0 : error;
@@ -314,22 +317,36 @@ static int read_at_once(struct thread *thread, bool has_something)
 static int begin_to_wait(struct thread *thread)
 {
     int error = waiting_note(thread);
-    if (error && !thread->is_waiting)
+    if (error && !thread->waits.is_reading)
         waiting_hear(thread, true); /* nobody would tell: it may look for itself */
     if (thread->process->engine->is_left)
         settle_some(thread->process->engine);
     return error;
 }
 
-/* The read of one that needn't have waited is answered with what there is. If that is nothing, it waits all the same, if it may. */
-static void answer_at_once(struct thread *thread, uint32_t flags)
+/* Ends a request as the library says; `error` is what its commands have come to, and `why` its read. */
+static void end_request(struct thread *thread, const hullpippin_ending *ending, int error, int why)
 {
-    if (returns_are_there(thread) || is_to_return(thread)) {
+    switch (hullpippin_request_ends(ending)) {
+    case HULLPIPPIN_REQUEST_GOES_ON:
+        turns_want(&thread->process->engine->loop.turns, &thread->bell);
+        break;
+    case HULLPIPPIN_REQUEST_TELLS:
+        answer_error(thread, error);
+        break;
+    case HULLPIPPIN_REQUEST_FAILS:
+        page_interrupt(thread, why);
+        break;
+    case HULLPIPPIN_REQUEST_ANSWERS:
         returns_deliver(thread);
-    } else if (flags & PAGE_NONBLOCK) {
+        break;
+    case HULLPIPPIN_REQUEST_WOULD_BLOCK:
         page_interrupt(thread, EAGAIN);
-    } else if (begin_to_wait(thread)) {
-        page_interrupt(thread, ENOMEM);
+        break;
+    case HULLPIPPIN_REQUEST_WAITS:
+        if (begin_to_wait(thread))
+            page_interrupt(thread, ENOMEM);
+        break;
     }
 }
 
@@ -337,22 +354,19 @@ static void answer_at_once(struct thread *thread, uint32_t flags)
    answered by what makes it ready. */
 static void answer_request(struct thread *thread, int error, uint32_t flags)
 {
-    struct engine *engine = thread->process->engine;
-    bool reads = thread->is_waiting;
-    enum at_once at_once = reads ? is_at_once(thread, flags) : WAITS;
-    int why = at_once ? read_at_once(thread, at_once == HAS_SOMETHING) : 0;
-    settle_some(engine);
-    if (!at_once)
+    hullpippin_ending ending = {.is_put_off = error == UNDONE, .reads = thread->waits.is_reading, .may_wait = !(flags & PAGE_NONBLOCK)};
+    uint32_t begins = ending.reads ? begin_read(thread, flags) : HULLPIPPIN_READ_WAITS;
+    ending.is_at_once = begins != HULLPIPPIN_READ_WAITS;
+    int why = ending.is_at_once ? read_at_once(thread, begins) : 0;
+    settle_some(thread->process->engine);
+    if (!ending.is_at_once)
         why = begin_to_wait(thread);
-    if (error == UNDONE)
-        turns_want(&engine->loop.turns, &thread->bell);
-    else if (!reads)
-        answer_error(thread, error);
-    else if (thread->is_waiting && why)
-        page_interrupt(thread, why);
-    else if (thread->is_waiting && at_once)
-        answer_at_once(thread, flags);
-    if (reads && thread->is_waiting && atomic_load(&thread->page->cancel))
+    ending.has_failed = why;
+    ending.is_reading = thread->waits.is_reading;
+    ending.is_there = ending.is_at_once && returns_are_there(thread);
+    ending.is_to_return = is_to_return(thread);
+    end_request(thread, &ending, error, why);
+    if (ending.reads && thread->waits.is_reading && atomic_load(&thread->page->cancel))
         cancel(thread); /* its ring may have been one with that for the request */
 }
 
@@ -384,7 +398,7 @@ void page_rung(struct thread *thread)
         go_on_writing(thread);
         return;
     }
-    if (thread->is_waiting || !list_is_empty(&thread->in_seatless)) {
+    if (thread->waits.is_reading || !list_is_empty(&thread->in_seatless)) {
         cancel(thread);
         return;
     }

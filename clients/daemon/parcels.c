@@ -16,7 +16,7 @@
 
 /* Copies a part of the parcel from the area. What isn't mapped here is read: that fills no hole which the client has left there. What stands
    between the parts nobody reads: the library has zeros there. */
-static bool copy_part(struct workbench *bench, const struct thread *thread, const hullpippin_part *part)
+static __attribute__((noinline)) bool copy_some(struct workbench *bench, const struct thread *thread, const hullpippin_part *part)
 {
     uint64_t mapped = part->from < AREA_MAPPED ? AREA_MAPPED - part->from : 0, copied = part->size < mapped ? part->size : mapped;
     off_t from = (off_t)(offsetof(struct page, area) + part->from + copied);
@@ -24,6 +24,12 @@ static bool copy_part(struct workbench *bench, const struct thread *thread, cons
     if (copied)
         page_copy(to, thread->page->area + part->from, copied);
     return copied == part->size || pread(thread->memory, to + copied, part->size - copied, from) == (ssize_t)(part->size - copied);
+}
+
+/* Few parcels have all parts. */
+static bool copy_part(struct workbench *bench, const struct thread *thread, const hullpippin_part *part)
+{
+    return !part->size || copy_some(bench, thread, part);
 }
 
 /* Copies what the library says of the parcel from the page to the daemon's memory, where alone it is looked at. */

@@ -403,7 +403,7 @@ static enum answered do_control(struct process *process, const struct control_re
         fds[0] = process->window.fd;
         return ANSWERED;
     case CONTROL_MAX_THREADS:
-        process->max_threads = request->size > UINT32_MAX ? UINT32_MAX : (uint32_t)request->size;
+        process->loopers.max = request->size > UINT32_MAX ? UINT32_MAX : (uint32_t)request->size;
         return ANSWERED;
     case CONTROL_SPAM:
         answer->error = set_spam(process, request->size != 0);

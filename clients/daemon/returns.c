@@ -8,39 +8,59 @@
 #include <errno.h>
 #include <string.h>
 
-/* Whether it gets what comes to its process. As in the kernel a read that gets something of its own gets nothing of that. */
-static bool reads_for_process(const struct thread *thread)
+/* What the engine has for the thread, and for its process, beside what that has taken back. */
+static hullpippin_cleared beside(const struct thread *thread, const struct cleared_notification *notification)
+{
+    hullpippin_live *live = &thread->process->engine->live;
+    hullpippin_cleared cleared = {.place = notification->place};
+    hullpippin_work own, oldest = {0};
+    cleared.has_own = hullpippin_live_unread_of_thread(live, thread->seat, 0, &own);
+    cleared.has_oldest = hullpippin_live_unread_of_process(live, thread->process->opened, 0, &oldest);
+    cleared.oldest = oldest.place;
+    return cleared;
+}
+
+/* Whether the thread is told of that next. */
+static bool is_next(const struct thread *thread, const struct cleared_notification *notification)
 {
     hullpippin_facts facts = returns_facts(thread);
-    hullpippin_work own;
-    return facts.is_idle && !facts.is_left && !hullpippin_live_unread_of_thread(&thread->process->engine->live, thread->seat, 0, &own);
+    hullpippin_cleared cleared = beside(thread, notification);
+    return hullpippin_cleared_next(&cleared, &facts);
 }
 
-/* What a process has taken back stands on its list among all else, in the order of the steps. */
-static bool is_next(struct process *process, const struct cleared_notification *notification)
+static __attribute__((noinline)) bool are_there_beside(const struct thread *thread)
 {
-    hullpippin_work oldest;
-    return !hullpippin_live_unread_of_process(&process->engine->live, process->opened, 0, &oldest) || oldest.place > notification->place;
+    hullpippin_facts facts = returns_facts(thread);
+    hullpippin_cleared cleared = beside(thread, thread->process->cleared.all);
+    return hullpippin_cleared_there(&cleared, &facts);
 }
 
-static bool has_cleared(const struct thread *thread)
+static hullpippin_pending pending_of(const struct thread *thread)
 {
-    struct process *process = thread->process;
-    return process->cleared.count && reads_for_process(thread) && is_next(process, process->cleared.all);
+    return (hullpippin_pending){thread->pending_size, thread->room, thread->is_looper};
 }
 
 bool returns_are_whole(const struct thread *thread)
 {
-    return returns_facts(thread).is_whole;
+    const hullpippin_pending pending = pending_of(thread);
+    return hullpippin_reader_is_whole(&thread->reader, &pending);
+}
+
+static bool is_there(const struct thread *thread)
+{
+    const hullpippin_pending pending = pending_of(thread);
+    return hullpippin_reader_is_there(&thread->reader, &pending);
 }
 
 /* Of who has read nothing it need not be asked. */
 bool returns_are_there(const struct thread *thread)
 {
-    return ((thread->pending_size || thread->reader.is_full) && returns_facts(thread).is_there) || has_cleared(thread);
+    if (thread->process->cleared.count)
+        return are_there_beside(thread);
+    return (thread->pending_size || thread->reader.is_full) && is_there(thread);
 }
 
-/* Appends a return to the pending ones. There is room: it was left by the limit of the read. */
+/* Appends returns to the pending ones. There is room: it was left by the limit of the read. */
 static void append(struct thread *thread, const uint8_t *bytes, uint32_t size)
 {
     memcpy(thread->pending + thread->pending_size, bytes, size);
@@ -48,34 +68,30 @@ static void append(struct thread *thread, const uint8_t *bytes, uint32_t size)
 }
 
 /* A transaction or reply: its parcel goes to the window, and its record becomes the client's. */
-static void take_call(struct thread *thread, uint32_t code, uint8_t *bytes)
+static void take_call(struct thread *thread, uint8_t *bytes)
 {
     struct binder_transaction_data record;
-    memcpy(&record, bytes, sizeof record);
+    uint32_t code;
+    memcpy(&code, bytes, sizeof code);
+    memcpy(&record, bytes + sizeof code, sizeof record);
     struct process *sender = record.sender_pid ? process_of(thread->process->engine, (uint32_t)record.sender_pid) : NULL;
     record.sender_pid = sender ? caller_pid_for(&sender->caller, &thread->process->caller) : 0;
     parcel_deliver(thread, &record);
-    memcpy(bytes, &record, sizeof record);
-    hullpippin_reader_read(&thread->reader, code, record.flags & TF_ONE_WAY);
+    memcpy(bytes + sizeof code, &record, sizeof record);
     if (code == BR_TRANSACTION && !(record.flags & TF_ONE_WAY))
         target_note_served(thread, sender, record.flags);
 }
 
-static void take_return(struct thread *thread, uint8_t *bytes, uint32_t size)
+/* What was read is pending from then on. */
+static void take_returns(struct thread *thread, uint8_t *returns, uint32_t size)
 {
-    uint32_t code;
-    memcpy(&code, bytes, sizeof code);
-    if (code == BR_NOOP)
-        return;
-    if (code == BR_TRANSACTION || code == BR_REPLY)
-        take_call(thread, code, bytes + sizeof code);
-    else
-        hullpippin_reader_read(&thread->reader, code, 0);
-    append(thread, bytes, size);
+    size_t call = hullpippin_reader_read(&thread->reader, returns, size);
+    if (call < size)
+        take_call(thread, returns + call);
+    append(thread, returns, size);
 }
 
-/* Appends what the process is to be told next, where nothing of the thread's own is pending. */
-static void take_cleared(struct thread *thread)
+static __attribute__((noinline)) void take_some_cleared(struct thread *thread)
 {
     struct cleared *cleared = &thread->process->cleared;
     struct {
@@ -83,16 +99,23 @@ static void take_cleared(struct thread *thread)
         binder_uintptr_t cookie;
     } __attribute__((packed)) done = {.code = BR_CLEAR_DEATH_NOTIFICATION_DONE};
     uint32_t taken = 0;
-    if (thread->pending_size || !has_cleared(thread))
+    if (thread->pending_size || !cleared->count)
         return;
     for (; taken < cleared->count && thread->pending_size + RETURN_ROOM + sizeof(uint32_t) <= thread->room
-           && is_next(thread->process, &cleared->all[taken]); taken++) {
+           && is_next(thread, &cleared->all[taken]); taken++) {
         done.cookie = cleared->all[taken].cookie;
         append(thread, (const uint8_t *)&done, sizeof done);
         thread->reader.is_prompt = true;
     }
     cleared->count -= taken;
     memmove(cleared->all, cleared->all + taken, cleared->count * sizeof *cleared->all);
+}
+
+/* Appends what the process is to be told next, where nothing of the thread's own is pending. */
+static void take_cleared(struct thread *thread)
+{
+    if (thread->process->cleared.count)
+        take_some_cleared(thread);
 }
 
 /* What the engine's latest read, which was for the thread, has got: 0, or EAGAIN where that was nothing. */
@@ -104,14 +127,10 @@ static int take(struct thread *thread, uint8_t *returns, uint32_t size, bool is_
     }
     if (thread->process->cleared.count)
         settle_clear(thread->process); /* what stood before the first of them may have been this */
-    for (uint32_t at = 0; at + sizeof(uint32_t) <= size;) {
-        uint32_t code;
-        memcpy(&code, returns + at, sizeof code);
-        uint32_t length = sizeof code + _IOC_SIZE(code);
-        take_return(thread, returns + at, length);
-        at += length;
-    }
-    sendings_sort(thread);
+    if (size > sizeof(uint32_t))
+        take_returns(thread, returns + sizeof(uint32_t), size - sizeof(uint32_t)); /* behind BR_NOOP, which comes first */
+    if (thread->has_sent_objects)
+        sendings_sort(thread);
     return 0;
 }
 
@@ -126,11 +145,13 @@ static int fetch(struct thread *thread, uint32_t limit)
 
 int returns_fetch(struct thread *thread)
 {
-    sendings_gather(thread);
+    if (thread->has_sent_objects)
+        sendings_gather(thread);
     take_cleared(thread);
-    hullpippin_facts facts = returns_facts(thread);
-    thread->reader.is_full = !facts.has_room;
-    return facts.has_room ? fetch(thread, facts.limit) : 0;
+    const hullpippin_pending pending = pending_of(thread);
+    uint32_t limit = hullpippin_reader_limit(&thread->reader, &pending);
+    thread->reader.is_full = !limit;
+    return limit ? fetch(thread, limit) : 0;
 }
 
 /* What others' reads bring for the thread stands before, and is read by steps of its own. */
@@ -159,24 +180,9 @@ int returns_fetch_deferred(struct thread *thread)
     return returns_facts(thread).fetches ? fetch(thread, READ_LEAST) : EAGAIN;
 }
 
-static bool is_completion(uint32_t code)
-{
-    return code == BR_TRANSACTION_COMPLETE || code == BR_ONEWAY_SPAM_SUSPECT;
-}
-
-static uint32_t pending_completions(const struct thread *thread)
-{
-    uint32_t count = 0, code;
-    for (uint32_t at = 0; at < thread->pending_size; at += sizeof code + _IOC_SIZE(code)) {
-        memcpy(&code, thread->pending + at, sizeof code);
-        count += is_completion(code);
-    }
-    return count;
-}
-
 hullpippin_facts returns_facts(const struct thread *thread)
 {
-    const hullpippin_pending pending = {thread->pending_size, pending_completions(thread), thread->room, thread->is_looper};
+    const hullpippin_pending pending = pending_of(thread);
     hullpippin_facts facts;
     hullpippin_reader_facts(&thread->reader, &pending, &facts);
     return facts;
@@ -190,24 +196,11 @@ int returns_fetch_sent(struct thread *thread)
     return error;
 }
 
-/* As the kernel does: where no thread of the process waits for work, a looper's read asks for another thread. */
-static bool wants_looper(const struct thread *thread)
-{
-    struct process *process = thread->process;
-    if (!thread->is_looper || process->requested || process->started >= process->max_threads || waiting_one(process))
-        return false;
-    process->requested++;
-    return true;
-}
-
 /* Sends the descriptors that the library has for what is handed over: as many as there are places for their numbers. */
-static void send_landing(struct thread *thread)
+static __attribute__((noinline)) void send_landing(struct thread *thread, struct landing *landing)
 {
-    struct landing *landing = thread->landing;
     struct engine *engine = thread->process->engine;
     int fds[DESCRIPTORS_MAX];
-    if (!landing || !landing->is_on_way)
-        return;
     landing->is_on_way = false; /* the places stay, for the numbers */
     struct account *account = sent_payer(&engine->sent, landing->step);
     uint32_t count = tickets_take(engine, landing->step, fds);
@@ -219,31 +212,35 @@ static void send_landing(struct thread *thread)
     tickets_close(account, fds, count);
 }
 
-/* How many bytes of the pending returns fit into so much room. */
+/* How many bytes of the pending returns fit into so much room, of which it is told then. */
 static uint32_t fitting(struct thread *thread, uint32_t room)
 {
-    uint32_t size = 0;
-    while (size < thread->pending_size && room - size >= RETURN_ROOM) {
-        uint32_t code;
-        memcpy(&code, thread->pending + size, sizeof code);
-        if (code == BR_TRANSACTION || code == BR_REPLY)
-            send_landing(thread);
-        if (hullpippin_reader_told(&thread->reader, code))
-            sendings_end(thread);
-        size += sizeof code + _IOC_SIZE(code);
-    }
-    return size;
+    hullpippin_returns_told told;
+    hullpippin_reader_told(&thread->reader, thread->pending, thread->pending_size, room, &told);
+    if (told.has_call && thread->landing && thread->landing->is_on_way)
+        send_landing(thread, thread->landing);
+    if (told.is_all)
+        sendings_end(thread);
+    return (uint32_t)told.size;
 }
 
-/* What fits is handed over, behind BR_NOOP. */
+/* The code that the thread's read is answered with first; 0 where it has no room for that. */
+static uint32_t front_of(const struct thread *thread)
+{
+    struct process *process = thread->process;
+    const struct thread *next = waiting_first(process);
+    return hullpippin_loopers_answer(&process->loopers, thread->room, thread->is_looper, next && next->waits.is_reading);
+}
+
+/* What fits is handed over, behind the first code. */
 void returns_deliver(struct thread *thread)
 {
-    uint32_t first = BR_NOOP, size = 0;
+    uint32_t size = 0;
     waiting_stop(thread);
-    if (thread->room >= sizeof first) {
+    uint32_t first = front_of(thread);
+    if (first) {
         take_cleared(thread);
         size = fitting(thread, thread->room - sizeof first);
-        first = wants_looper(thread) ? BR_SPAWN_LOOPER : BR_NOOP;
         page_put(thread, 0, &first, sizeof first);
         page_put(thread, sizeof first, thread->pending, size);
         thread->pending_size -= size;

@@ -29,6 +29,7 @@ static void take_away(struct thread *thread)
     count_lent(thread->process->engine, false);
     waiting_forget(thread);
     thread->seat = NO_SEAT;
+    thread->waits.has_seat = false;
     thread->is_looper = false;
     thread->reader = (hullpippin_reader){0};
     doorbell_set(thread, false);
@@ -50,7 +51,7 @@ static void lose(struct engine *engine, uint32_t seat)
 /* Whether the thread would lose nothing with its seat. */
 static bool is_idle(struct engine *engine, const struct thread *thread)
 {
-    return !thread->is_looper && !thread->reader.serving && !thread->reader.calling && !thread->is_waiting && thread->doorbell < 0
+    return !thread->is_looper && !thread->reader.serving && !thread->reader.calling && !thread->waits.is_reading && thread->doorbell < 0
            && !thread->pending_size && !thread->writing && !hullpippin_live_ready(&engine->live, thread->seat);
 }
 
@@ -86,6 +87,7 @@ static bool attach(struct thread *thread, uint32_t seat)
         return false;
     }
     count_lent(engine, true);
+    thread->waits.has_seat = true;
     thread->seat = seat;
     return true;
 }

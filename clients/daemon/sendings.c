@@ -133,8 +133,6 @@ static void put_in_order(struct thread *thread)
 
 void sendings_sort(struct thread *thread)
 {
-    if (!thread->has_sent_objects)
-        return;
     hand_over(thread);
     put_in_order(thread);
 }

@@ -35,7 +35,8 @@ struct sent {
     struct purse *purse;
     uint64_t step;
     uint32_t pieces;
-    bool is_wrapped; /* its parcel has a trailer, and wasn't read yet */
+    bool is_wrapped;      /* its parcel has a trailer, and wasn't read yet */
+    bool has_descriptors; /* .. and brings descriptors on their way (tickets.c) */
     struct fixups fixups;
 };
 
@@ -136,7 +137,8 @@ struct sent *sent_new(struct process *process, struct parcel *parcel)
         let_go(all, sent);
         return NULL;
     }
-    *sent = (struct sent){.purse = purse, .pieces = pieces, .is_wrapped = parcel->is_wrapped, .fixups = parcel->fixups};
+    *sent = (struct sent){.purse = purse, .pieces = pieces, .is_wrapped = parcel->is_wrapped,
+                           .has_descriptors = parcel->is_on_way, .fixups = parcel->fixups};
     parcel->fixups = (struct fixups){NULL, 0};
     return sent;
 }
@@ -157,12 +159,18 @@ void sent_keep(struct sent_all *all, struct sent *sent, uint64_t step)
     all->wrapped += sent->is_wrapped;
 }
 
+/* Where it is linked, or its list ends. */
+static struct sent **place_of(const struct sent_all *all, uint64_t step)
+{
+    struct sent **at = &all->heads[step % SENT_LISTS];
+    while (*at && (*at)->step != step)
+        at = &(*at)->next;
+    return at;
+}
+
 static struct sent *find(const struct sent_all *all, uint64_t step)
 {
-    struct sent *sent = all->heads[step % SENT_LISTS];
-    while (sent && sent->step != step)
-        sent = sent->next;
-    return sent;
+    return *place_of(all, step);
 }
 
 struct account *sent_payer(const struct sent_all *all, uint64_t step)
@@ -184,14 +192,9 @@ struct fixups sent_unwrap(struct sent_all *all, uint64_t step)
     return fixups;
 }
 
-static void end(struct sent_all *all, uint64_t step)
+static void end(struct sent_all *all, struct sent **at)
 {
-    struct sent **at = &all->heads[step % SENT_LISTS];
-    while (*at && (*at)->step != step)
-        at = &(*at)->next;
     struct sent *sent = *at;
-    if (!sent)
-        return;
     *at = sent->next;
     all->wrapped -= sent->is_wrapped;
     sent_free(all, sent);
@@ -202,8 +205,11 @@ void sent_see_ended(struct engine *engine)
     struct sent_all *all = &engine->sent;
     size_t count = hullpippin_live_ended(&engine->live, all->ended, ENDED_MOST);
     for (size_t i = 0; i < count; i++) {
-        tickets_end(engine, all->ended[i]);
-        end(all, all->ended[i]);
+        struct sent **at = place_of(all, all->ended[i]);
+        if (*at && (*at)->has_descriptors)
+            tickets_end(engine, all->ended[i]);
+        if (*at)
+            end(all, at);
     }
 }
 
@@ -211,7 +217,7 @@ void sent_all_end(struct sent_all *all)
 {
     for (size_t i = 0; all->heads && i < SENT_LISTS; i++)
         while (all->heads[i])
-            end(all, all->heads[i]->step);
+            end(all, &all->heads[i]);
     for (struct sent *sent; (sent = all->spare);) {
         all->spare = sent->next;
         free(sent);

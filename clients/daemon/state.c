@@ -55,7 +55,8 @@ static void tell_process(struct engine *engine, const struct process *process, s
     name_find(&name, &process->caller, 0);
     *record = (struct state_record){.kind = STATE_PROCESS, .process = process->engine_pid, .pid = (uint32_t)process->pid,
                                     .euid = process->euid, .window = (uint32_t)process->window.size, .threads = process->thread_count,
-                                    .max_threads = process->max_threads, .requested = process->requested, .started = process->started,
+                                    .max_threads = process->loopers.max, .requested = process->loopers.requested,
+                                    .started = process->loopers.started,
                                     .unread = unread_of_process(engine, process->engine_pid)};
     record->flags = (process == engine->manager ? STATE_MANAGER : 0) | (process->detects_spam ? STATE_DETECTS_SPAM : 0);
     memcpy(record->comm, name.comm, sizeof record->comm);
@@ -68,7 +69,7 @@ static void tell_thread(struct engine *engine, const struct thread *thread, stru
     *record = (struct state_record){.kind = STATE_THREAD, .process = thread->process->engine_pid, .pid = (uint32_t)thread->process->pid,
                                     .tid = (uint32_t)thread->name.tid, .seat = thread->seat, .serving = thread->reader.serving,
                                     .calling = thread->reader.calling, .innermost = frame.made, .unread = unread_of_thread(engine, thread->seat)};
-    record->flags = (thread->is_looper ? STATE_LOOPS : 0) | (thread->is_waiting ? STATE_WAITS : 0);
+    record->flags = (thread->is_looper ? STATE_LOOPS : 0) | (thread->waits.is_reading ? STATE_WAITS : 0);
     memcpy(record->comm, thread->name.comm, sizeof record->comm);
 }
 

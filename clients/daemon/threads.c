@@ -171,9 +171,8 @@ int thread_join(struct process *process, uint64_t tid, int fds[3])
 /* Descriptors that it hasn't handed over go to nobody. */
 static void end_landing(struct thread *thread)
 {
-    struct landing *landing = thread->landing;
-    if (landing && landing->is_on_way)
-        tickets_end(thread->process->engine, landing->step);
+    if (thread->landing)
+        tickets_end(thread->process->engine, thread->landing->step);
 }
 
 struct landing *thread_landing(struct thread *thread)
@@ -198,9 +197,9 @@ void thread_end(struct thread *thread)
 static void tell_end(struct thread *thread)
 {
     atomic_store(&thread->page->ended, 1);
-    if (!thread->is_waiting)
+    if (!thread->waits.is_reading)
         thread->answer = (struct page_answer){0};
-    if (thread->is_waiting || atomic_load(&thread->page->state) == PAGE_ASKED)
+    if (thread->waits.is_reading || atomic_load(&thread->page->state) == PAGE_ASKED)
         page_interrupt(thread, ENODEV);
 }
 

@@ -12,14 +12,29 @@
    left is looked at later. */
 #define LOOKS_AT_ONCE 16
 
-/* Where threads of the process poll, their doorbells come first: some of their work this may have been. */
-static void answer(struct thread *thread)
+/* It is answered once the doorbells of its process are right. */
+static void queue(struct thread *thread)
 {
-    struct engine *engine = thread->process->engine;
-    if (!thread->process->pollers)
-        returns_deliver(thread);
-    else if (list_is_empty(&thread->in_woken))
-        list_append(&engine->woken, &thread->in_woken);
+    thread->waits.is_woken = true;
+    if (list_is_empty(&thread->in_woken))
+        list_append(&thread->process->engine->woken, &thread->in_woken);
+}
+
+/* Does with a thread what the library says: 0 or an errno. `error` is what it fails with. */
+static int do_with(struct thread *thread, uint32_t doing, int error)
+{
+    switch (doing) {
+    case HULLPIPPIN_DO_NOTE:
+        return waiting_note(thread);
+    case HULLPIPPIN_DO_ANSWER:
+        return returns_deliver(thread), 0;
+    case HULLPIPPIN_DO_QUEUE:
+        return queue(thread), 0;
+    case HULLPIPPIN_DO_FAIL:
+        return error;
+    default:
+        return 0;
+    }
 }
 
 static void answer_woken(struct engine *engine)
@@ -47,10 +62,9 @@ void settle_clear(struct process *process)
 static void see_to_touched(struct thread *thread)
 {
     list_remove(&thread->in_touched);
-    if (thread->is_waiting && returns_are_whole(thread))
-        answer(thread);
-    else if ((thread->is_waiting || thread->told) && waiting_note(thread) && thread->is_waiting)
-        page_interrupt(thread, ENOMEM);
+    int error = do_with(thread, hullpippin_waits_touched(&thread->waits, returns_are_whole(thread), thread->process->pollers), 0);
+    if (error && thread->waits.is_reading)
+        page_interrupt(thread, error);
     waiting_ring(thread);
 }
 
@@ -59,7 +73,8 @@ static void see_to_cleared(struct process *process)
 {
     struct thread *thread;
     list_remove(&process->in_clearing);
-    while (process->cleared.count && (thread = waiting_one(process)) && returns_are_there(thread))
+    while (process->cleared.count && (thread = waiting_first(process))
+           && hullpippin_waits_answered(&thread->waits, returns_are_there(thread)))
         returns_deliver(thread);
     waiting_ring_all(process, process->rings);
 }
@@ -78,31 +93,45 @@ static void see_to_others(struct engine *engine)
         see_to_each(engine);
 }
 
-/* What was read for a thread. If that was nothing for it, or can wait, it waits on, with less room. */
+static uint32_t taken(const struct thread *thread, int error, bool wakes, bool is_behind)
+{
+    uint32_t outcome = !error ? HULLPIPPIN_TOOK_SOMETHING : error == EAGAIN ? HULLPIPPIN_TOOK_NOTHING : HULLPIPPIN_TOOK_FAILED;
+    return hullpippin_waits_taken(outcome, wakes, is_behind, !thread->pending_size, thread->process->pollers);
+}
+
+/* What was read for a thread. */
 static void take_read(struct thread *thread, bool wakes, int error)
 {
     if (wakes)
         waiting_woken(thread);
     if (!error)
         error = returns_take(thread);
-    if (!error && wakes && thread->reader.is_behind)
+    uint32_t doing = taken(thread, error, wakes, thread->reader.is_behind);
+    if (doing == HULLPIPPIN_DO_FETCH) {
         returns_fetch_sent(thread);
-    if (error == EAGAIN || (!error && (!wakes || !thread->pending_size)))
-        error = waiting_note(thread);
-    else if (!error)
-        answer(thread);
+        doing = taken(thread, error, wakes, false);
+    }
+    error = do_with(thread, doing, error);
     if (error)
         page_interrupt(thread, error);
 }
 
-/* What a call has left doesn't count before its reply. */
+static uint32_t heard(const struct thread *thread, bool rings)
+{
+    const hullpippin_facts facts = returns_facts(thread);
+    return hullpippin_waits_heard(&thread->waits, &facts, rings, returns_are_there(thread));
+}
+
+/* The bridge has told that a thread's doorbell rings, or is silent. */
 static void hear(struct thread *thread, bool rings)
 {
-    if (rings && thread->is_waiting && !returns_facts(thread).has_room) {
+    uint32_t doing = heard(thread, rings);
+    if (doing == HULLPIPPIN_HEARD_FULL) {
         thread->reader.is_full = true;
         returns_deliver(thread);
+        doing = heard(thread, rings);
     }
-    if (rings && !returns_are_there(thread) && !returns_fetch_deferred(thread))
+    if (doing == HULLPIPPIN_HEARD_FETCHES && !returns_fetch_deferred(thread))
         waiting_hear_anew(thread);
     else
         waiting_hear(thread, rings);

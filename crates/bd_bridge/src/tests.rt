@@ -3,7 +3,7 @@
 ghost use Rattle.std.specs.Prelude.{◌≡◌, ◌<◌, IfOk};
 ghost use Rattle.bd_bridge.specs.Waiting.{seats_in};
 
-use crate::{Bridge, Engine, Loopers, Reached, Reading, Signal, TodoList};
+use crate::{Bridge, Engine, Reached, Reading, Signal, TodoList};
 use std::alloc::Global;
 use std::test::Fail;
 
@@ -321,16 +321,4 @@ fn one_signal_comes_at_a_time(rt: HostRuntime) -> Result<(), Fail> {
     assert!(rt; bridge.settle_one(4, &mut reads).is_none());
     assert!(rt; bridge.is_settled());
     Ok(())
-}
-
-#[test]
-fn a_process_is_asked_for_threads(rt: HostRuntime) {
-    let mut loopers = Loopers::new();
-    assert!(rt; !loopers.ask(true, false), "none may come");
-    loopers.max = 1;
-    assert!(rt; !loopers.ask(true, true), "somebody waits");
-    assert!(rt; loopers.ask(true, false), "nobody waits");
-    assert!(rt; !loopers.ask(true, false), "one is still to come");
-    loopers.attach();
-    assert!(rt; !loopers.ask(true, false), "no more may come");
 }

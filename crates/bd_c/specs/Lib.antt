@@ -31,3 +31,4 @@ pub mod Tickets
 pub mod Turns
 pub mod Wrappings
 pub mod Readers
+pub mod Waits

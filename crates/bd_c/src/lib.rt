@@ -53,6 +53,8 @@ mod status;
 mod texts;
 mod ticket_calls;
 mod tickets;
+mod waiting_calls;
+mod waits;
 mod walks;
 mod wrapping_calls;
 mod wrappings;

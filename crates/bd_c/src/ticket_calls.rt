@@ -1,5 +1,6 @@
 //! What C calls to keep the descriptors of parcels that are on their way: they take and give numbers of its own.
-ghost use Rattle.std.specs.Prelude.{◌≡◌, None, false};
+ghost use Rattle.std.specs.Prelude.{◌≡◌, ◌==◌, not, None, false};
+ghost use Rattle.bd_tickets.specs.Came.{kept as kept_of};
 ghost use Rattle.bd_c.specs.{Status.{Reports}, Misuse.{IsMisuse}, Behind.{Of, Over, IsThere, IsTickets, tickets_of}};
 ghost use Rattle.bd_c.specs.Tickets.{TicketsOpen, PutsTickets, TakesTickets, TellsStep};
 
@@ -7,6 +8,7 @@ use crate::handles::Handle;
 use crate::opening::{free, put_made};
 use crate::status::Status;
 use crate::tickets::{open_tickets, put_tickets, take_tickets, tell_step};
+use bd_tickets::kept_descriptors;
 use std::alloc::Global;
 
 /// Makes a handle's tickets: none is on its way. The handle has to have nothing.
@@ -79,4 +81,18 @@ pub extern "C" fn hullpippin_free_tickets(alloc: Global, tickets: &mut Handle)
     ensures { tickets.new.held ≡ None }
 {
     free(alloc, tickets);
+}
+
+/// How many of the descriptors that came with a request are its own: all of them, as many as it says, or none. `is_whole` isn't 0 where they
+/// came in one piece, and `is_run` where it is run.
+#[unsafe(no_mangle)]
+pub extern "C" fn hullpippin_descriptors_kept(
+    wanted: u32,
+    came: u32,
+    is_whole: u32,
+    is_run: u32,
+) -> u32
+    ensures { result ≡ kept_of wanted came (not (is_whole == 0)) (not (is_run == 0)) }
+{
+    kept_descriptors(wanted, came, is_whole != 0, is_run != 0)
 }

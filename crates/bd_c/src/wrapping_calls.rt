@@ -1,23 +1,21 @@
 //! What C calls to bring a parcel with buffers and descriptors through an engine.
 ghost use Rattle.std.specs.Prelude.{◌≡◌, ◌==◌, not};
 ghost use Rattle.bd_wrapping.specs.{Trailers.{trailer_in as found_in}, Areas.{parts_of as their_parts}, Ways.{way_of as its_way}};
-ghost use Rattle.bd_c.specs.Wrappings.{trailer_given, asked_given, way_number as number_of_it, TellsTrailer, TellsParts, PutsTrailer};
+ghost use Rattle.bd_c.specs.Wrappings.{way_number as number_of_it, TellsTrailer, TellsParts, PutsTrailer};
 
-use crate::wrappings::{
-    AskedInC, PartsTold, TrailerInC, put_given, tell_parts, tell_trailer, way_number,
-};
-use bd_wrapping::way_of;
+use crate::wrappings::{put_given, tell_parts, tell_trailer, way_number};
+use bd_wrapping::{Asked, Parts, Trailer, way_of};
 
 /// Tells what is copied of a client's area of so many bytes, for a parcel of so many objects at most, and where it goes. False
 /// where that isn't to be had.
 #[unsafe(no_mangle)]
 pub extern "C" fn hullpippin_parcel_parts(
-    asked: &AskedInC,
+    asked: &Asked,
     area: u32,
     objects: u32,
-    parts: &mut PartsTold,
+    parts: &mut Parts,
 ) -> bool
-    ensures { TellsParts (their_parts (asked_given asked.now) area objects) parts.old parts.new result }
+    ensures { TellsParts (their_parts asked.now area objects) parts.old parts.new result }
 {
     tell_parts(asked, area, objects, parts)
 }
@@ -34,8 +32,8 @@ pub extern "C" fn hullpippin_parcel_way(body: &[u8], offsets: &[u8], most: usize
 /// Ends a parcel that was laid out with zeros and its trailer: how much there is then, or 0 where that finds no room, and nothing is
 /// written.
 #[unsafe(no_mangle)]
-pub extern "C" fn hullpippin_put_trailer(out: &mut [u8], laid: usize, trailer: &TrailerInC) -> usize
-    ensures { PutsTrailer laid (trailer_given trailer.now) out.old out.new result }
+pub extern "C" fn hullpippin_put_trailer(out: &mut [u8], laid: usize, trailer: &Trailer) -> usize
+    ensures { PutsTrailer laid trailer.now out.old out.new result }
 {
     put_given(out, laid, trailer)
 }
@@ -45,7 +43,7 @@ pub extern "C" fn hullpippin_put_trailer(out: &mut [u8], laid: usize, trailer: &
 pub extern "C" fn hullpippin_find_trailer(
     body: &[u8],
     offsets: &[u8],
-    trailer: &mut TrailerInC,
+    trailer: &mut Trailer,
 ) -> bool
     ensures { TellsTrailer (found_in body.now offsets.now) trailer.old trailer.new result }
 {

@@ -1,24 +1,27 @@
 //! What a thread's read does next, by what it has left.
 
-ghost use Rattle.std.specs.Prelude.{◌≡◌, ◌==◌, ◌&&◌, not};
+ghost use Rattle.std.specs.Prelude.{◌≡◌, ◌==◌, ◌&&◌, not, if◌then◌else◌};
+ghost use Rattle.bd_reader.specs.Readers.{is_set as it_is_set};
 ghost use Rattle.bd_reader.specs.Facts.{facts_of, limit_of as its_limit, has_room as it_has_room, is_there as it_is_there};
 
 use crate::Reader;
+use crate::reader::is_set;
+use crate::returns::ROOM;
 
 /// What a thread has read and wasn't told, and its read.
+#[repr(C)]
 #[derive(Clone, Copy)]
 pub struct Pending {
-    /// How many bytes of returns there are ..
+    /// How many bytes of returns there are.
     pub size: u32,
-    /// .. and how many completions among these.
-    pub completed: u32,
     /// So many bytes its read has room for.
     pub room: u32,
-    /// It is in the loop.
-    pub is_looping: bool,
+    /// Not 0: it is in the loop.
+    pub is_looping: u32,
 }
 
 /// What is so of a thread that reads.
+#[repr(C)]
 #[derive(Clone, Copy)]
 pub struct Facts {
     /// Its read has something to be answered with ..
@@ -41,8 +44,6 @@ pub struct Facts {
 
 // BR_NOOP, and the longest return.
 const LEAST: u32 = 72;
-// A return more is handed over while so many bytes are left, as in the kernel.
-const ROOM: u32 = 76;
 
 #[inline(always)]
 fn limit_of(pending: &Pending) -> u32
@@ -56,34 +57,46 @@ fn limit_of(pending: &Pending) -> u32
 }
 
 impl Reader {
-    // Its read has something to be answered with.
+    /// Its read has something to be answered with.
     #[inline(always)]
-    fn is_there(&self, pending: &Pending) -> bool
+    pub fn is_there(&self, pending: &Pending) -> bool
         ensures { result ≡ it_is_there pending.now self.now }
     {
-        (pending.size != 0 && self.is_prompt) || self.is_full
+        (pending.size != 0 && is_set(self.is_prompt)) || is_set(self.is_full)
     }
 
-    // That is whole, but for what the engine may have.
+    /// That is whole, but for what the engine may have.
     #[inline(always)]
-    fn is_whole(&self, is_there: bool, is_left: bool) -> bool
-        ensures { result ≡ (is_there && not (self.now.is_behind && is_left)) }
+    pub fn is_whole(&self, pending: &Pending) -> bool
+        ensures { result ≡ (facts_of pending.now self.now).is_whole }
     {
-        is_there && !(self.is_behind && is_left)
+        self.is_there(pending) && !(is_set(self.is_behind) && self.completed < self.untold)
+    }
+
+    /// With which limit the engine reads for it, or 0: its read has no room for a return.
+    #[inline(always)]
+    pub fn limit(&self, pending: &Pending) -> u32
+        ensures { result ≡ (if (facts_of pending.now self.now).has_room then (facts_of pending.now self.now).limit else 0) }
+    {
+        if self.has_room(pending) {
+            limit_of(pending)
+        } else {
+            0
+        }
     }
 
     #[inline(always)]
     fn defers(&self) -> bool
-        ensures { result ≡ (not (self.now.calling == 0) && not self.now.is_prompt) }
+        ensures { result ≡ (not (self.now.calling == 0) && not (it_is_set self.now.is_prompt)) }
     {
-        self.calling != 0 && !self.is_prompt
+        self.calling != 0 && !is_set(self.is_prompt)
     }
 
     #[inline(always)]
     fn fetches(&self) -> bool
-        ensures { result ≡ (not (self.now.completions == 0) && not self.now.is_prompt) }
+        ensures { result ≡ (not (self.now.completions == 0) && not (it_is_set self.now.is_prompt)) }
     {
-        self.completions != 0 && !self.is_prompt
+        self.completions != 0 && !is_set(self.is_prompt)
     }
 
     #[inline(always)]
@@ -105,15 +118,13 @@ impl Reader {
     pub fn facts(&self, pending: &Pending) -> Facts
         ensures { result ≡ facts_of pending.now self.now }
     {
-        let is_there = self.is_there(pending);
-        let is_left = pending.completed < self.untold;
         Facts {
-            is_there,
-            is_whole: self.is_whole(is_there, is_left),
-            is_left,
+            is_there: self.is_there(pending),
+            is_whole: self.is_whole(pending),
+            is_left: self.completed < self.untold,
             defers: self.defers(),
             fetches: self.fetches(),
-            is_idle: self.is_idle(pending.is_looping),
+            is_idle: self.is_idle(is_set(pending.is_looping)),
             has_room: self.has_room(pending),
             limit: limit_of(pending),
         }

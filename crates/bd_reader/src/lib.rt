@@ -4,9 +4,11 @@
 mod facts;
 mod laws;
 mod reader;
+mod returns;
 #[cfg(test)]
 mod tests;
 
 pub use facts::{Facts, Pending};
-pub use laws::{what_cannot_wait_is_told, what_was_refused_is_told_first};
-pub use reader::{Kind, Outcome, Reader, Refusal};
+pub use laws::{completions_are_counted, what_cannot_wait_is_told, what_was_refused_is_told_first};
+pub use reader::{Kind, NO_REFUSAL, Outcome, REFUSED_CALL, REFUSED_REPLY, Reader};
+pub use returns::Told;

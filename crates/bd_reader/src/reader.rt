@@ -1,19 +1,9 @@
 //! A thread that reads, and what it has yet to read.
 
 ghost use Rattle.std.specs.Prelude.{◌≡◌};
-ghost use Rattle.bd_reader.specs.Readers.{more as one_more, fewer as one_fewer, is_refusal as it_refuses, is_completion as it_completes, sent as sent_by, ended as ended_by, read as read_by, read_more as read_more_by, told as told_of, is_all_told, delivered as delivered_by};
+ghost use Rattle.bd_reader.specs.Readers.{flag as flag_of, is_set as it_is_set, more as one_more, fewer as one_fewer, is_refusal as it_refuses, is_completion as it_completes, sent as sent_by, ended as ended_by, read as read_by, read_more as read_more_by, without_reply as reply_told, without_call as call_told, told as told_of, delivered as delivered_by};
 
 use bd_uapi::codes::*;
-
-/// What was refused of a thread, and isn't told to it yet.
-#[derive(Clone, Copy, Debug, PartialEq, Eq)]
-pub enum Refusal {
-    Nothing,
-    /// A call, or a reply to nobody: a refusal tells it.
-    Call,
-    /// Any other reply: its completion tells it.
-    Reply,
-}
 
 /// What a thread sends.
 #[derive(Clone, Copy, Debug, PartialEq, Eq)]
@@ -32,7 +22,15 @@ pub enum Outcome {
     NoCall,
 }
 
-/// What a thread has left to be read by it.
+/// Nothing was refused of the thread that isn't told to it.
+pub const NO_REFUSAL: u32 = 0;
+/// A call was, or a reply to nobody: a refusal tells it.
+pub const REFUSED_CALL: u32 = 1;
+/// Any other reply was: its completion tells it.
+pub const REFUSED_REPLY: u32 = 2;
+
+/// What a thread has left to be read by it. C has it too, and of numbers that it never writes there each is good: a flag is one that isn't 0.
+#[repr(C)]
 #[derive(Clone, Copy, Debug, PartialEq, Eq)]
 pub struct Reader {
     /// Calls that it has to answer.
@@ -45,15 +43,18 @@ pub struct Reader {
     pub completions: u32,
     /// Death notifications of which it hasn't read that they were taken back, at most.
     pub clearings: u32,
-    /// Calls and replies of which it wasn't told that they were taken.
+    /// Calls and replies of which it wasn't told that they were taken ..
     pub untold: u32,
-    pub refusal: Refusal,
+    /// .. and of how many of these it has read that.
+    pub completed: u32,
+    /// What was refused of it and isn't told to it: `NO_REFUSAL`, `REFUSED_CALL` or `REFUSED_REPLY`.
+    pub refusal: u32,
     /// What it has read, or will, isn't only what can wait for a reply.
-    pub is_prompt: bool,
+    pub is_prompt: u32,
     /// Others have handed over some of it: what the engine has comes with that.
-    pub is_behind: bool,
+    pub is_behind: u32,
     /// There is a return for which its read has no room.
-    pub is_full: bool,
+    pub is_full: u32,
 }
 
 #[inline(always)]
@@ -71,7 +72,23 @@ fn fewer(n: u32) -> u32
 }
 
 #[inline(always)]
-fn is_completion(code: u32) -> bool
+fn flag(is_so: bool) -> u32
+    ensures { result ≡ flag_of is_so }
+{
+    if is_so { 1 } else { 0 }
+}
+
+/// Whether what a number says is so.
+#[inline(always)]
+pub(crate) fn is_set(flag: u32) -> bool
+    ensures { result ≡ it_is_set flag }
+{
+    flag != 0
+}
+
+/// That a call or a reply was taken.
+#[inline(always)]
+pub(crate) fn is_completion(code: u32) -> bool
     ensures { result ≡ it_completes code }
 {
     code == BR_TRANSACTION_COMPLETE || code == BR_ONEWAY_SPAM_SUSPECT
@@ -84,174 +101,153 @@ fn is_refusal(code: u32) -> bool
     code == BR_FAILED_REPLY || code == BR_DEAD_REPLY
 }
 
+// What stays refused where a completion is told and so many aren't.
+#[inline(always)]
+fn without_reply(untold: u32, refusal: u32) -> u32
+    ensures { result ≡ reply_told untold refusal }
+{
+    if untold == 0 && refusal == REFUSED_REPLY {
+        NO_REFUSAL
+    } else {
+        refusal
+    }
+}
+
+// The same where a refusal is told.
+#[inline(always)]
+fn without_call(refusal: u32) -> u32
+    ensures { result ≡ call_told refusal }
+{
+    if refusal == REFUSED_CALL {
+        NO_REFUSAL
+    } else {
+        refusal
+    }
+}
+
 impl Reader {
     /// A call or a reply of the thread was taken or refused.
     #[inline(always)]
-    pub fn sent(self, kind: Kind, outcome: Outcome) -> Reader
-        ensures { result ≡ sent_by kind outcome self }
+    pub fn sent(&mut self, kind: Kind, outcome: Outcome)
+        ensures { self.new ≡ sent_by kind outcome self.old }
     {
         match (kind, outcome) {
-            (Kind::Call, Outcome::Taken) => Reader {
-                calling: more(self.calling),
-                completions: more(self.completions),
-                untold: more(self.untold),
-                ..self
-            },
-            (Kind::OneWay, Outcome::Taken) => Reader {
-                untold: more(self.untold),
-                is_prompt: true,
-                ..self
-            },
-            (Kind::Reply, Outcome::Taken) => Reader {
-                serving: fewer(self.serving),
-                untold: more(self.untold),
-                is_prompt: true,
-                ..self
-            },
-            (Kind::Reply, Outcome::Refused) => Reader {
-                serving: fewer(self.serving),
-                untold: more(self.untold),
-                refusal: Refusal::Reply,
-                is_prompt: true,
-                ..self
-            },
-            _ => Reader {
-                refusals: more(self.refusals),
-                refusal: Refusal::Call,
-                ..self
-            },
+            (Kind::Call, Outcome::Taken) => {
+                self.calling = more(self.calling);
+                self.completions = more(self.completions);
+                self.untold = more(self.untold);
+            }
+            (Kind::OneWay, Outcome::Taken) => {
+                self.untold = more(self.untold);
+                self.is_prompt = 1;
+            }
+            (Kind::Reply, Outcome::Taken) => {
+                self.serving = fewer(self.serving);
+                self.untold = more(self.untold);
+                self.is_prompt = 1;
+            }
+            (Kind::Reply, Outcome::Refused) => {
+                self.serving = fewer(self.serving);
+                self.untold = more(self.untold);
+                self.refusal = REFUSED_REPLY;
+                self.is_prompt = 1;
+            }
+            _ => {
+                self.refusals = more(self.refusals);
+                self.refusal = REFUSED_CALL;
+            }
         }
     }
 
     // A call of it was refused, or one that was taken gets no reply.
     #[inline(always)]
-    fn ended(self) -> Reader
-        ensures { result ≡ ended_by self }
+    fn ended(&mut self)
+        ensures { self.new ≡ ended_by self.old }
     {
         if self.refusals == 0 {
-            return Reader {
-                calling: fewer(self.calling),
-                is_prompt: true,
-                ..self
-            };
+            self.calling = fewer(self.calling);
+        } else {
+            self.refusals = fewer(self.refusals);
         }
-        Reader {
-            refusals: fewer(self.refusals),
-            is_prompt: true,
-            ..self
-        }
+        self.is_prompt = 1;
     }
 
     /// The thread has read a return; `is_one_way` is said of a call.
     #[inline(always)]
-    pub fn read(self, code: u32, is_one_way: bool) -> Reader
-        ensures { result ≡ read_by code is_one_way self }
+    pub(crate) fn read(&mut self, code: u32, is_one_way: bool)
+        ensures { self.new ≡ read_by code is_one_way self.old }
     {
         if code == BR_NOOP {
-            return self;
+            return;
         }
         if code == BR_TRANSACTION {
-            let serving = if is_one_way {
-                self.serving
-            } else {
-                more(self.serving)
-            };
-            return Reader {
-                serving,
-                is_prompt: true,
-                ..self
-            };
+            if !is_one_way {
+                self.serving = more(self.serving);
+            }
+            self.is_prompt = 1;
+            return;
         }
         if code == BR_REPLY {
-            return Reader {
-                calling: fewer(self.calling),
-                is_prompt: true,
-                ..self
-            };
+            self.calling = fewer(self.calling);
+            self.is_prompt = 1;
+            return;
         }
         if is_refusal(code) {
-            return self.ended();
+            self.ended();
+            return;
         }
-        self.read_more(code)
+        self.read_more(code);
     }
 
     // The same of all others.
     #[inline(always)]
-    fn read_more(self, code: u32) -> Reader
-        ensures { result ≡ read_more_by code self }
+    fn read_more(&mut self, code: u32)
+        ensures { self.new ≡ read_more_by code self.old }
     {
         if code == BR_TRANSACTION_COMPLETE {
-            return Reader {
-                completions: fewer(self.completions),
-                ..self
-            };
+            self.completions = fewer(self.completions);
+            self.completed = more(self.completed);
+            return;
+        }
+        if code == BR_ONEWAY_SPAM_SUSPECT {
+            self.completed = more(self.completed);
         }
         if code == BR_CLEAR_DEATH_NOTIFICATION_DONE {
-            return Reader {
-                clearings: fewer(self.clearings),
-                is_prompt: true,
-                ..self
-            };
+            self.clearings = fewer(self.clearings);
         }
         if self.calling != 0 && (code == BR_INCREFS || code == BR_ACQUIRE) {
-            return self;
+            return;
         }
-        Reader {
-            is_prompt: true,
-            ..self
-        }
+        self.is_prompt = 1;
     }
 
     /// The thread is told a return.
     #[inline(always)]
-    pub fn told(self, code: u32) -> Reader
-        ensures { result ≡ told_of code self }
+    pub(crate) fn told(&mut self, code: u32)
+        ensures { self.new ≡ told_of code self.old }
     {
         if is_completion(code) {
-            let untold = fewer(self.untold);
-            let refusal = match self.refusal {
-                Refusal::Reply if untold == 0 => Refusal::Nothing,
-                other => other,
-            };
-            return Reader {
-                untold,
-                refusal,
-                ..self
-            };
+            self.completed = fewer(self.completed);
+            self.untold = fewer(self.untold);
+            self.refusal = without_reply(self.untold, self.refusal);
+        } else if is_refusal(code) {
+            self.refusal = without_call(self.refusal);
         }
-        if is_refusal(code) {
-            let refusal = match self.refusal {
-                Refusal::Call => Refusal::Nothing,
-                other => other,
-            };
-            return Reader { refusal, ..self };
-        }
-        self
-    }
-
-    /// Whether by that it is told of all that it has sent.
-    #[inline(always)]
-    pub fn is_all_told(&self, code: u32) -> bool
-        ensures { result ≡ is_all_told code self.now }
-    {
-        is_completion(code) && self.untold == 0
     }
 
     /// A read of the thread is answered. `is_left` is whether it has read more than that; `is_ready` whether the engine has more.
     #[inline(always)]
-    pub fn delivered(self, is_left: bool, is_ready: bool) -> Reader
-        ensures { result ≡ delivered_by is_left is_ready self }
+    pub fn delivered(&mut self, is_left: bool, is_ready: bool)
+        ensures { self.new ≡ delivered_by is_left is_ready self.old }
     {
         let has_more = if self.calling != 0 {
             is_ready
         } else {
             self.untold != 0
         };
-        Reader {
-            is_prompt: is_left || (self.is_prompt && (self.is_full || has_more)),
-            is_behind: false,
-            is_full: false,
-            ..self
-        }
+        let goes_on = is_set(self.is_prompt) && (is_set(self.is_full) || has_more);
+        self.is_prompt = flag(is_left || goes_on);
+        self.is_behind = 0;
+        self.is_full = 0;
     }
 }

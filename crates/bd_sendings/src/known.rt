@@ -9,8 +9,8 @@ use crate::sent::{Sending, Sent};
 // So many objects are known of a process, ..
 pub(crate) const MOST: usize = 512;
 
-// .. and of a thread.
-const EACH: usize = 32;
+// .. and of a thread: a parcel that has more is told of by the rules.
+pub(crate) const EACH: usize = 32;
 
 fn count_of(known: &[Sent], thread: u32) -> usize
     ensures { result ≡ count_by (λ e. e.sender == thread) known.now }

@@ -4,13 +4,10 @@ ghost use Rattle.std.specs.Prelude.{◌≡◌, ◌≤◌, vec_capacity};
 ghost use Rattle.bd_parcel.specs.Parcels.{offsets_in};
 ghost use Rattle.bd_sendings.specs.Sendings.{sent_at, sent_among, noted};
 
-use crate::known::{send_strong, send_weak};
+use crate::known::{EACH, send_strong, send_weak};
 use crate::sent::{Sending, Sent};
 use bd_uapi::codes::{BINDER, WEAK_BINDER};
 use bd_uapi::numbers::{u32_at, u64_at};
-
-// A parcel that has more objects is told of by the rules.
-const OBJECTS: usize = 32;
 
 // The object at an offset is sent.
 fn send_at(known: &mut Vec<Sent>, sending: &Sending, body: &[u8], offset: u64)
@@ -49,7 +46,7 @@ pub(crate) fn note(known: &mut Vec<Sent>, sending: &Sending, body: &[u8], offset
     ensures noted { known.new.items ≡ noted sending.now body.now offsets.now known.old.items }
     ensures capacity { vec_capacity known.new ≡ vec_capacity known.old }
 {
-    if offsets.len() / 8 <= OBJECTS {
+    if offsets.len() / 8 <= EACH {
         send_all(known, sending, body, offsets);
     }
 }

@@ -1,6 +1,6 @@
 //! Some parcels on their way.
 
-use crate::{Shelves, Tickets};
+use crate::{Shelves, Tickets, kept_descriptors};
 use std::test::Fail;
 
 #[test]
@@ -39,5 +39,14 @@ fn parcels_on_one_list_are_told_apart(rt: HostRuntime) -> Result<(), Fail> {
     assert!(rt; shelves.some_step() == Some(3));
     assert!(rt; shelves.take(3).is_some());
     assert!(rt; shelves.some_step().is_none());
+    Ok(())
+}
+
+#[test]
+fn a_request_keeps_what_it_says_or_nothing(rt: HostRuntime) -> Result<(), Fail> {
+    assert_eq!(rt; kept_descriptors(2, 2, true, true), 2);
+    assert_eq!(rt; kept_descriptors(2, 3, true, true), 0);
+    assert_eq!(rt; kept_descriptors(2, 2, false, true), 0);
+    assert_eq!(rt; kept_descriptors(2, 2, true, false), 0);
     Ok(())
 }

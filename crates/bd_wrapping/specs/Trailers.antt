@@ -68,6 +68,11 @@ pub record IsTrailer (t : Trailer) : Type 0 where
 abbrev pub TrailersAreFoundAgain : Type 0
 TrailersAreFoundAgain = (t : Trailer) (front offsets : List ℕ) → IsTrailer t → is_clear offsets (length front) ≡ true → trailer_in (front ++ trailer_bytes t) offsets ≡ Some t
 
+-- So much of what a trailer was put into is a parcel in which it is found, whatever the engine has done to the objects before it.
+abbrev pub PutTrailersAreFoundAgain : Type 0
+PutTrailersAreFoundAgain = (laid n : ℕ) (t : Trailer) (old new front offsets : List ℕ) → IsTrailer t → IsPut laid t old new (Some n)
+    → length front ≡ n - 48 → is_clear offsets (length front) ≡ true → trailer_in (front ++ drop (n - 48) (take n new)) offsets ≡ Some t
+
 -- Whether there is one, and which, doesn't depend on what stands before the last 48 bytes: so the engine makes none by what it does to objects,
 -- and no receiver's cookie does.
 abbrev pub TrailersStandBehindAllObjects : Type 0

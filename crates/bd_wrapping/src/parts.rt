@@ -1,8 +1,9 @@
 //! Where a parcel lies in a client's memory, and where it goes.
 
-ghost use Rattle.std.specs.Prelude.{◌≡◌, ◌<◌, ◌^◌};
-ghost use Rattle.bd_wrapping.specs.Trailers.{round_8 as rounded};
+ghost use Rattle.std.specs.Prelude.{◌≡◌};
 ghost use Rattle.bd_wrapping.specs.Areas.{is_inside as it_is_inside, parts_of as parts_of_it};
+
+use crate::trailer::round_8;
 
 /// Where a client says that the parts of its parcel lie in its area, and how much each is. The room for buffers follows the offsets, from a
 /// multiple of 8 on.
@@ -39,14 +40,6 @@ fn is_inside(place: u64, size: u64, area: u32) -> bool
 {
     let area = area as u64;
     size <= area && place <= area - size
-}
-
-// The next multiple of 8 of what is small.
-fn round_8(n: u64) -> u64
-    requires { n < 2 ^ 33 }
-    ensures { result ≡ rounded n }
-{
-    (n + 7) / 8 * 8
 }
 
 /// The parts of a parcel that lies in an area of so many bytes, and has so many objects at most. None where it isn't all inside, or takes more

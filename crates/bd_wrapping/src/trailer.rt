@@ -1,7 +1,7 @@
 //! What stands behind a parcel that goes through the engine as more data than its client sent.
 
-ghost use Rattle.std.specs.Prelude.{◌≡◌, ◌≤◌, ◌+◌, ◌-◌, ◌/◌, ◌%◌, ◌^◌, ◌++◌, length, take, drop, replicate, true, false, IfSome, IfNone};
-ghost use Rattle.bd_wrapping.specs.Trailers.{is_clear as it_is_clear, trailer_at, trailer_bytes, trailer_in as found_in, wrapped_size, has_room as it_has_room, IsPut};
+ghost use Rattle.std.specs.Prelude.{◌≡◌, ◌<◌, ◌≤◌, ◌+◌, ◌-◌, ◌/◌, ◌%◌, ◌^◌, ◌++◌, length, take, drop, replicate, true, false, IfSome, IfNone};
+ghost use Rattle.bd_wrapping.specs.Trailers.{round_8 as rounded, is_clear as it_is_clear, trailer_at, trailer_bytes, trailer_in as found_in, wrapped_size, has_room as it_has_room, IsPut};
 
 use bd_uapi::numbers::{put_u32, put_u64, u32_at, u64_at};
 
@@ -28,6 +28,14 @@ const TRAILER: usize = 48;
 
 // `trailer` and a 0, as a number.
 const MARK: u64 = 0x0072_656c_6961_7274;
+
+/// The next multiple of 8 of what is small.
+pub(crate) fn round_8(n: u64) -> u64
+    requires { n < 2 ^ 33 }
+    ensures { result ≡ rounded n }
+{
+    (n + 7) / 8 * 8
+}
 
 // Whether no object that the engine knows reaches behind a place: by the last one.
 fn is_clear(offsets: &[u8], place: usize) -> bool
@@ -79,9 +87,7 @@ fn size_in(laid: usize, trailer: &Trailer, room: usize) -> Option<usize>
     if trailer.body > most || trailer.offsets > most || trailer.buffers > most {
         return None;
     }
-    let body = (trailer.body as usize + 7) / 8 * 8;
-    let offsets = (trailer.offsets as usize + 7) / 8 * 8;
-    let size = body + offsets + trailer.buffers as usize;
+    let size = (round_8(trailer.body) + round_8(trailer.offsets) + trailer.buffers) as usize;
     if size < laid || room < size + TRAILER {
         return None;
     }

@@ -1014,8 +1014,10 @@ pub struct hullpippin_reader {
     pub completions: u32,
     /// Death notifications of which it hasn't read that they were taken back, at most.
     pub clearings: u32,
-    /// Calls and replies of which it wasn't told that they were taken.
+    /// Calls and replies of which it wasn't told that they were taken ..
     pub untold: u32,
+    /// .. and of how many of these it has read that.
+    pub completed: u32,
     /// What was refused and isn't told: HULLPIPPIN_REFUSAL_NONE ..
     pub refusal: u32,
     /// Not 0: it has read, or will, more than what can wait for a reply.
@@ -1048,10 +1050,8 @@ pub const HULLPIPPIN_SENT_REPLY: u32 = 2;
 #[repr(C)]
 #[derive(Clone, Copy, Debug, Default, PartialEq, Eq)]
 pub struct hullpippin_pending {
-    /// How many bytes of returns ..
+    /// How many bytes of returns.
     pub size: u32,
-    /// .. and how many BR_TRANSACTION_COMPLETE and BR_ONEWAY_SPAM_SUSPECT among them.
-    pub completed: u32,
     /// So many bytes its read has room for.
     pub room: u32,
     /// Not 0: it is in the loop.
@@ -1078,6 +1078,221 @@ pub struct hullpippin_facts {
     pub has_room: bool,
     /// Of the engine's read for it.
     pub limit: u32,
+}
+
+/// What a thread is told of its returns.
+#[repr(C)]
+#[derive(Clone, Copy, Debug, Default, PartialEq, Eq)]
+pub struct hullpippin_returns_told {
+    /// How many bytes of them.
+    pub size: usize,
+    /// There is a BR_TRANSACTION or BR_REPLY among these.
+    pub has_call: bool,
+    /// By these it is told of all that it has sent.
+    pub is_all: bool,
+}
+
+/// What a bridge is to be told of a thread by: which calls of it, in this order. Of the first two there is one at most.
+#[repr(C)]
+#[derive(Clone, Copy, Debug, Default, PartialEq, Eq)]
+pub struct hullpippin_calls {
+    /// Hullpippin_bridge_stop_waiting.
+    pub stops_waiting: bool,
+    /// Hullpippin_bridge_stop_reading.
+    pub stops_reading: bool,
+    /// Hullpippin_bridge_give_doorbell.
+    pub gives_bell: bool,
+    /// Hullpippin_bridge_wait, with ..
+    pub reads: bool,
+    /// .. this room ..
+    pub limit: u32,
+    /// .. and HULLPIPPIN_TELLS_ALL or HULLPIPPIN_LEAVES.
+    pub defers: u32,
+}
+
+/// What a bridge was told of a thread.
+#[repr(C)]
+#[derive(Clone, Copy, Debug, Default, PartialEq, Eq)]
+pub struct hullpippin_told {
+    /// It has a doorbell.
+    pub has_bell: bool,
+    /// It waits in a read, with ..
+    pub reads: bool,
+    /// .. this room ..
+    pub limit: u32,
+    /// .. and that much it need not be told.
+    pub defers: u32,
+}
+
+/// How a thread waits.
+#[repr(C)]
+#[derive(Clone, Copy, Debug, Default, PartialEq, Eq)]
+pub struct hullpippin_waits {
+    /// It has a seat.
+    pub has_seat: bool,
+    /// It has a doorbell.
+    pub polls: bool,
+    /// It waits in a read ..
+    pub is_reading: bool,
+    /// .. and is about to be answered.
+    pub is_woken: bool,
+    /// It stands on the list of its process ..
+    pub is_idle: bool,
+    /// .. and is the one there that the bridge is told of.
+    pub is_herald: bool,
+    /// Its doorbell rings, as the bridge has told.
+    pub rings: bool,
+    /// What the bridge was told.
+    pub told: hullpippin_told,
+    /// What it is to be told.
+    pub calls: hullpippin_calls,
+}
+
+/// Where a thread stands on the list of its process.
+pub const HULLPIPPIN_PLACE_NOWHERE: u32 = 0;
+
+/// Where a thread stands on the list of its process.
+pub const HULLPIPPIN_PLACE_FIRST: u32 = 1;
+
+/// Where a thread stands on the list of its process.
+pub const HULLPIPPIN_PLACE_LAST: u32 = 2;
+
+/// What is done about a thread.
+pub const HULLPIPPIN_DO_NOTHING: u32 = 0;
+
+/// It waits otherwise than before: hullpippin_waits_note.
+pub const HULLPIPPIN_DO_NOTE: u32 = 1;
+
+/// What is left of its calls and replies is read too, and it is asked again.
+pub const HULLPIPPIN_DO_FETCH: u32 = 2;
+
+/// Its read is answered.
+pub const HULLPIPPIN_DO_ANSWER: u32 = 3;
+
+/// Its read is answered once the doorbells of its process are right; until then it is woken.
+pub const HULLPIPPIN_DO_QUEUE: u32 = 4;
+
+/// Its read is answered with what has failed.
+pub const HULLPIPPIN_DO_FAIL: u32 = 5;
+
+/// What a read of the engine's has got.
+pub const HULLPIPPIN_TOOK_SOMETHING: u32 = 0;
+
+/// What a read of the engine's has got.
+pub const HULLPIPPIN_TOOK_NOTHING: u32 = 1;
+
+/// It couldn't be made, or taken.
+pub const HULLPIPPIN_TOOK_FAILED: u32 = 2;
+
+/// It rings, or is silent.
+pub const HULLPIPPIN_HEARD_RINGS: u32 = 0;
+
+/// The next of what a call has left is read: where there was some, hullpippin_waits_tell_anew; else it rings.
+pub const HULLPIPPIN_HEARD_FETCHES: u32 = 1;
+
+/// Its read has no room for what is there: it is answered, and it is asked again.
+pub const HULLPIPPIN_HEARD_FULL: u32 = 2;
+
+/// How a read begins.
+pub const HULLPIPPIN_READ_WAITS: u32 = 0;
+
+/// It fetches if the engine has something for it (hullpippin_live_ready), and else waits.
+pub const HULLPIPPIN_READ_LOOKS: u32 = 1;
+
+/// It is answered with what there is: it reads until facts.is_whole, or the engine has nothing more.
+pub const HULLPIPPIN_READ_COMES_BACK: u32 = 2;
+
+/// The engine has something for it: it reads once, and then on like that.
+pub const HULLPIPPIN_READ_FETCHES: u32 = 3;
+
+/// What has become of a request once its commands have run and its read has begun.
+#[repr(C)]
+#[derive(Clone, Copy, Debug, Default, PartialEq, Eq)]
+pub struct hullpippin_ending {
+    /// It goes on later.
+    pub is_put_off: bool,
+    /// It has begun a read ..
+    pub reads: bool,
+    /// .. that isn't answered yet.
+    pub is_reading: bool,
+    /// Its read couldn't be made, or the bridge couldn't be told.
+    pub has_failed: bool,
+    /// Its read didn't begin with waiting.
+    pub is_at_once: bool,
+    /// As when it began ..
+    pub may_wait: bool,
+    /// .. and as it is now.
+    pub is_to_return: bool,
+    /// It has something to be answered with; looked at where it is at once.
+    pub is_there: bool,
+}
+
+/// It isn't answered now.
+pub const HULLPIPPIN_REQUEST_RESTS: u32 = 0;
+
+/// It goes on later.
+pub const HULLPIPPIN_REQUEST_GOES_ON: u32 = 1;
+
+/// It is answered with what its commands have come to.
+pub const HULLPIPPIN_REQUEST_TELLS: u32 = 2;
+
+/// It is answered with why its read failed.
+pub const HULLPIPPIN_REQUEST_FAILS: u32 = 3;
+
+/// Its read is answered with what there is.
+pub const HULLPIPPIN_REQUEST_ANSWERS: u32 = 4;
+
+/// .. with EAGAIN.
+pub const HULLPIPPIN_REQUEST_WOULD_BLOCK: u32 = 5;
+
+/// It waits from now on; where the bridge can't be told, it is answered with ENOMEM.
+pub const HULLPIPPIN_REQUEST_WAITS: u32 = 6;
+
+/// What to do with a request that waits, in its read or before it begins, when its thread wants the answer now.
+pub const HULLPIPPIN_CANCEL_RESTS: u32 = 0;
+
+/// What the engine has is read, and the read answered with what there is.
+pub const HULLPIPPIN_CANCEL_COMES_BACK: u32 = 1;
+
+/// Its read is answered with EINTR.
+pub const HULLPIPPIN_CANCEL_INTERRUPTS: u32 = 2;
+
+/// It isn't begun, and answered with EINTR.
+pub const HULLPIPPIN_CANCEL_REFUSES: u32 = 3;
+
+/// A death notification that a process has taken back, and what else its thread has to read.
+#[repr(C)]
+#[derive(Clone, Copy, Debug, Default, PartialEq, Eq)]
+pub struct hullpippin_cleared {
+    /// Of the step that took it back.
+    pub place: u64,
+    /// Of the oldest that is unread of the process ..
+    pub oldest: u64,
+    /// .. if there is anything.
+    pub has_oldest: bool,
+    /// The thread has something of its own to read.
+    pub has_own: bool,
+}
+
+/// Whether a thread that takes a notification back itself is told of that at once, and not with a reply.
+pub const HULLPIPPIN_CLEARED_IS_NOT_TOLD: u32 = 0;
+
+/// Whether a thread that takes a notification back itself is told of that at once, and not with a reply.
+pub const HULLPIPPIN_CLEARED_IS_TOLD: u32 = 1;
+
+/// The next item of its list tells.
+pub const HULLPIPPIN_CLEARED_LOOKS_ON: u32 = 2;
+
+/// How many threads a process may be asked for.
+#[repr(C)]
+#[derive(Clone, Copy, Debug, Default, PartialEq, Eq)]
+pub struct hullpippin_loopers {
+    /// So many ..
+    pub max: u32,
+    /// .. of which so many are still to come ..
+    pub requested: u32,
+    /// .. and so many have.
+    pub started: u32,
 }
 
 /// A call or reply that was taken.
@@ -1615,6 +1830,11 @@ extern "C" {
     /// each until there is none. False where none is on its way. Takes no memory, and some time where few are.
     pub fn hullpippin_tickets_some_step(tickets: *mut hullpippin_tickets, step: *mut u64) -> bool;
 
+    /// How many of the descriptors that came with a request are its own: all of them, as many as it says, or none; the
+    /// others are closed then. `is_whole` isn't 0 where they came in one piece, and `is_run` where it is run. Needs no
+    /// tickets.
+    pub fn hullpippin_descriptors_kept(wanted: u32, came: u32, is_whole: u32, is_run: u32) -> u32;
+
     /// Lets go of tickets, and empties the handle: whatever is still on its way is nobody's then. Does nothing where it
     /// is empty.
     pub fn hullpippin_free_tickets(tickets: *mut hullpippin_tickets);
@@ -1622,11 +1842,19 @@ extern "C" {
     /// A command of the thread was run, HULLPIPPIN_SENT_CALL .., with `stop` and `number` of its answer.
     pub fn hullpippin_reader_sent(reader: *mut hullpippin_reader, kind: u32, stop: u32, number: u32);
 
-    /// The thread has read a return of this code. `is_one_way` isn't 0 where it is a one-way call.
-    pub fn hullpippin_reader_read(reader: *mut hullpippin_reader, code: u32, is_one_way: u32);
+    /// The thread has read these returns, as an engine's read gives them: the last of them is BR_TRANSACTION or
+    /// BR_REPLY, if one is. Tells where that one begins, or else where they end.
+    pub fn hullpippin_reader_read(reader: *mut hullpippin_reader, returns: *const u8, size: usize) -> usize;
 
-    /// The thread is told a return of this code. Whether it is told by that of all that it has sent.
-    pub fn hullpippin_reader_told(reader: *mut hullpippin_reader, code: u32) -> bool;
+    /// The thread is told so many of its returns as a read with so much room has room for: one more while 76 bytes are
+    /// left.
+    pub fn hullpippin_reader_told(
+        reader: *mut hullpippin_reader,
+        returns: *const u8,
+        size: usize,
+        room: u32,
+        told: *mut hullpippin_returns_told,
+    );
 
     /// A read of the thread is answered. `is_left` isn't 0 where it has read more than it is told, `is_ready` where the
     /// engine has more for it.
@@ -1638,6 +1866,119 @@ extern "C" {
         pending: *const hullpippin_pending,
         facts: *mut hullpippin_facts,
     );
+
+    /// One of these alone: `is_there`; `is_whole`; and `limit`, or 0 where its read has no room.
+    pub fn hullpippin_reader_is_there(reader: *const hullpippin_reader, pending: *const hullpippin_pending) -> bool;
+
+    /// One of these alone: `is_there`; `is_whole`; and `limit`, or 0 where its read has no room.
+    pub fn hullpippin_reader_is_whole(reader: *const hullpippin_reader, pending: *const hullpippin_pending) -> bool;
+
+    /// One of these alone: `is_there`; `is_whole`; and `limit`, or 0 where its read has no room.
+    pub fn hullpippin_reader_limit(reader: *const hullpippin_reader, pending: *const hullpippin_pending) -> u32;
+
+    /// The thread waits differently from now on. Take it off its process's list first. The answer says where it goes on
+    /// that list now, and `calls` has what to tell the bridge. `has_own` isn't 0 if the thread has something of its own
+    /// to read (hullpippin_live_unread_of_thread); ask that only of a thread with a doorbell. `is_alone` isn't 0 if
+    /// nobody else is on the list, `is_ending` if the process ends.
+    pub fn hullpippin_waits_note(
+        waits: *mut hullpippin_waits,
+        facts: *const hullpippin_facts,
+        calling: u32,
+        has_own: u32,
+        is_alone: u32,
+        is_ending: u32,
+    ) -> u32;
+
+    /// Whether the first thread on a process's list becomes the one that the bridge knows. `is_same` isn't 0 if it
+    /// already is.
+    pub fn hullpippin_waits_herald_changes(is_same: u32, is_ending: u32) -> bool;
+
+    /// The thread is the one that the bridge knows from now on.
+    pub fn hullpippin_waits_take_over(
+        waits: *mut hullpippin_waits,
+        facts: *const hullpippin_facts,
+        calling: u32,
+        has_own: u32,
+    );
+
+    /// Another thread is the one from now on. If this one has something of its own, it leaves the list, and the bridge
+    /// goes on knowing it: `is_idle` is false.
+    pub fn hullpippin_waits_hand_over(waits: *mut hullpippin_waits, has_own: u32);
+
+    /// The bridge is told of the thread anew, as if it knew nothing of it.
+    pub fn hullpippin_waits_tell_anew(
+        waits: *mut hullpippin_waits,
+        facts: *const hullpippin_facts,
+        calling: u32,
+        has_own: u32,
+    );
+
+    /// Whether the thread's doorbell should ring. `all_ring` isn't 0 if the bell of its process's first idle thread
+    /// rings, `is_there` if the thread's read has an answer.
+    pub fn hullpippin_waits_ring(waits: *const hullpippin_waits, all_ring: u32, is_there: u32) -> bool;
+
+    /// What to do with a thread for which the engine was read (HULLPIPPIN_TOOK_SOMETHING and its like). The others
+    /// aren't 0 if: the bridge has woken the thread (`wakes`), its reader's `is_behind` is set, it has nothing to be
+    /// told (`is_empty`), a thread of its process polls (`somebody_polls`).
+    pub fn hullpippin_waits_taken(outcome: u32, wakes: u32, is_behind: u32, is_empty: u32, somebody_polls: u32) -> u32;
+
+    /// What to do with a thread to which another thread's read has brought something. `is_whole` is that of its facts.
+    pub fn hullpippin_waits_touched(waits: *const hullpippin_waits, is_whole: u32, somebody_polls: u32) -> u32;
+
+    /// What to do when the bridge says that a thread's doorbell rings, or is silent: HULLPIPPIN_HEARD_RINGS and its
+    /// like.
+    pub fn hullpippin_waits_heard(
+        waits: *const hullpippin_waits,
+        facts: *const hullpippin_facts,
+        rings: u32,
+        is_there: u32,
+    ) -> u32;
+
+    /// Whether the thread's read, which may have an answer by now, is answered.
+    pub fn hullpippin_waits_answered(waits: *const hullpippin_waits, is_there: u32) -> bool;
+
+    /// How a thread's read begins. `size` is how many bytes of returns it has read and wasn't told. `is_there` isn't 0
+    /// if these, or what its process has taken back, answer the read; `may_wait` if the read may wait; `is_to_return`
+    /// if it has to come back at once.
+    pub fn hullpippin_read_begins(
+        reader: *const hullpippin_reader,
+        size: u32,
+        is_there: u32,
+        may_wait: u32,
+        is_to_return: u32,
+    ) -> u32;
+
+    /// How a request ends: HULLPIPPIN_REQUEST_RESTS and its like.
+    pub fn hullpippin_request_ends(ending: *const hullpippin_ending) -> u32;
+
+    /// The same. `why` is 1 if a signal has come, 2 if the read has to come back; any other number does nothing.
+    pub fn hullpippin_request_cancels(is_reading: u32, why: u32) -> u32;
+
+    /// Whether the thread is told of that notification next.
+    pub fn hullpippin_cleared_next(cleared: *const hullpippin_cleared, facts: *const hullpippin_facts) -> bool;
+
+    /// Whether the thread's read has an answer, be it that notification.
+    pub fn hullpippin_cleared_there(cleared: *const hullpippin_cleared, facts: *const hullpippin_facts) -> bool;
+
+    /// The same, by one item of the thread's list. Ask for each `index` from 0; `is_item` isn't 0 if there is such an
+    /// item, and `kind` is its kind.
+    pub fn hullpippin_cleared_unread(is_item: u32, kind: u32, index: usize) -> u32;
+
+    /// The first code of a read's answer: BR_NOOP or BR_SPAWN_LOOPER, or 0 if `room` is too small for either.
+    /// `is_looper` isn't 0 if the thread is in the loop, `somebody_waits` if another thread of its process waits in a
+    /// read for what comes to the process.
+    pub fn hullpippin_loopers_answer(
+        loopers: *mut hullpippin_loopers,
+        room: u32,
+        is_looper: u32,
+        somebody_waits: u32,
+    ) -> u32;
+
+    /// A thread has run the command with this code: BC_REGISTER_LOOPER, BC_ENTER_LOOPER or BC_EXIT_LOOPER.
+    pub fn hullpippin_loopers_attach(loopers: *mut hullpippin_loopers, code: u32);
+
+    /// Whether a thread that runs such a command is in the loop afterwards.
+    pub fn hullpippin_loopers_enter(code: u32) -> bool;
 
     /// Makes rings: no number is anybody's. `rings` is empty, and stays so unless the answer is DONE. Also NO_MEMORY,
     /// MISUSE.
