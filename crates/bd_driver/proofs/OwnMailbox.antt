@@ -16,11 +16,10 @@ use Rattle.bd_space.specs.Histories.{BeginsWith}
 use Rattle.bd_driver.specs.Views.{view_of}
 use Rattle.bd_driver.specs.Rule.{Kept}
 use Rattle.bd_driver.specs.Mailboxes.{IsTold}
-use Rattle.bd_driver.specs.Steps.{Hands, opened, closed_at, closed, posted_at, posted_as, withdrew, collected_at, collected_as}
+use Rattle.bd_driver.specs.Steps.{Hands, opened, closed, posted_at, posted_as, withdrew, collected_at, collected_as}
 use Rattle.bd_driver.specs.Rest.{is_waiting, held_of, IsReady, IsAtRest}
 use Rattle.bd_driver.specs.Handing.{IsCollected, Collects}
 use Rattle.bd_driver.proofs.MailboxSteps.{posts, withdraws, collects, opens_mailbox, closes_mailbox}
-use Rattle.bd_driver.specs.Together.{closed_hand, shut_tally, closed_view}
 
 pub open_hand : (h : Handover) → IsReady h → is_waiting h ≡ false → h ≡ Open
 open_hand Shut r e = absurd r
@@ -110,14 +109,3 @@ opens_at seats slots id me v xs word is at handover =
 pub closes_at : (seats slots id : ℕ) (me : Hands) (v : View) (xs : List (ℕ × Slot)) (word : ℕ) → me ≡ (v ∷ [], (suc v.who, Empty) ∷ xs) → word ≡ suc v.who → v.handover ≡ Open → Allows (Kept seats) slots id me word (λ n. n) (closed (step slots word 0 0 none) me)
 closes_at seats slots id me v xs word is at handover =
     subst (λ (z : Hands × ℕ). Allows (Kept seats) slots id z.0 z.1 (λ n. n) (closed (step slots z.1 0 0 none) z.0)) (λ i. (sym is i, sym at i)) (closes_mailbox seats slots id (v ∷ [], (suc v.who, Empty) ∷ xs) refl handover refl)
-
--- what shutting leaves of a view
-pub open_closed : (words : ℕ) (me m' : Hands) (number : ℕ) (waiting : Bool) → IsAtRest words me number waiting → is_waiting (view_of me.0).handover ≡ false → m' ≡ (closed_at (view_of me.0) 0 ∷ [], rest me.1) → m' ≡ (closed_view (view_of me.0) ∷ [], [])
-open_closed words me m' number waiting r e is =
-    let h = open_hand (view_of me.0).handover r.ready e in
-    is ∙ (λ i. (record (view_of me.0) { handover = closed_hand (sym h i); shuts = shut_tally (sym h i) (view_of me.0).shuts } ∷ [], rest (ap (λ (m : Hands). m.1) (open_me words me number waiting r e) i)))
-
-pub waiting_closed : (words : ℕ) (me : Hands) (number : ℕ) (waiting : Bool) → IsAtRest words me number waiting → is_waiting (view_of me.0).handover ≡ true → me ≡ (closed_view (view_of me.0) ∷ [], [])
-waiting_closed words me number waiting r e =
-    let h = waiting_hand (view_of me.0).handover e in
-    waiting_me words me number waiting r e ∙ (λ i. (record (view_of me.0) { handover = ((h.2 ∙ sym (ap closed_hand h.2)) i); shuts = shut_tally (sym h.2 i) (view_of me.0).shuts } ∷ [], []))

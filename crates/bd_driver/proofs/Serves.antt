@@ -318,17 +318,6 @@ picks_serving m m' i r e s p = subst (λ x. IsPicked x i r e) (sym p.view.1.2) (
   stands = s.stands;
 })
 
-pub takes_serving : (v : View) (xs : List (ℕ × Slot)) (m : Hands) (e : History) (none_picked : v.pick ≡ Nothing) → Takes v xs m (Some e) → Serving m e
-takes_serving v xs m e none_picked t =
-    let is : view_of m.0 ≡ took_at v t.word t.entries = ap view_of t.view in
-    record {
-      one = t.view ∙ ap (λ l. view_of l ∷ []) (sym t.view);
-      on = ap (λ (x : View). x.taker) is ∙ eq-eqb (t.word % 2) 0 t.engine.0;
-      none_picked = ap (λ (x : View). x.pick) is ∙ none_picked;
-      held = t.engine.2 ∙ ap (λ l. (0, Empty) ∷ rest l) (sym t.engine.2);
-      stands = t.engine.1 ∙ (λ i. history_of (sym is i).seats (sym is i).seen);
-    }
-
 pub all_serves : (seats : ℕ) (v : View) (xs : List (ℕ × Slot)) (m m' m'' : Hands) (e : History) (d word : ℕ) → Takes v xs m (Some e) → ServedAll (view_of m.0) (rest m.1) seats m' d → m'' ≡ (put_at (view_of m'.0) word ∷ [], rest m'.1) → Serves seats v (view_of m''.0) (Ran d)
 all_serves seats v xs m m' m'' e d word t a p =
     let is : view_of m.0 ≡ took_at v t.word t.entries = ap view_of t.view in

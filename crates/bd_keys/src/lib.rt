@@ -13,6 +13,6 @@ mod treed;
 
 pub use key::WordKey;
 pub use map::WordMap;
-pub use numbers::{mixed, pair, tall, wide};
+pub use numbers::{mixed, tall, wide};
 pub use reserved::insert_reserved;
 pub use room::room_anew;

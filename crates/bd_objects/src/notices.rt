@@ -2,11 +2,8 @@
 
 ghost use Rattle.std.specs.Prelude.{◌≡◌, ◌&&◌, ◌||◌};
 ghost use Rattle.bd_space.specs.Words.{when};
-ghost use Rattle.bd_space.specs.Notices as notices;
 ghost use Rattle.bd_objects.specs.Telling.{differs};
 
-use crate::table::ObjectTable;
-use bd_processes::ProcessTable;
 use bd_records::Hold;
 use bd_space::Object;
 
@@ -32,18 +29,5 @@ pub(crate) fn owner_to_tell(hold: Hold, lives: bool, x: &Object) -> Option<u64>
         Some(x.owner)
     } else {
         None
-    }
-}
-
-impl ObjectTable {
-    ghost use Rattle.bd_objects.specs.Stands.{StandsFor, HasProcesses};
-    ghost use Rattle.bd_ways.specs.Tables.{TellsWhere};
-
-    /// Whether the owner of this object lives and is to be told. Takes the live processes.
-    pub fn wants_notice(&self, processes: &ProcessTable, x: &Object) -> bool
-        ensures { TellsWhere (StandsFor self.now) (HasProcesses processes.now) result
-            (λ s. notices.wants_notice s.processes s.references x.now) }
-    {
-        owner_to_tell(self.records.hold(x.id), processes.lives(x.owner), x).is_some()
     }
 }

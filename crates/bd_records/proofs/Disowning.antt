@@ -8,7 +8,7 @@ use Rattle.bd_space.proofs.Identities.{same_eq, same_self, same_turned}
 use Rattle.bd_records.specs.declared.{row.ObjectRow.{ObjectRow}, row.NameRow.{NameRow}}
 use Rattle.bd_records.specs.Count.{of_strength}
 use Rattle.bd_records.specs.Counting.{disowned, total_of, owed_of, managed_of, carried_of, is_to, is_managing, is_carrying, is_carried_to}
-use Rattle.bd_records.specs.{Counted.{CountsAre}, Records.{is_owner}, Buffers.{is_held}}
+use Rattle.bd_records.specs.{Counted.{CountsAre}, Records.{is_owner}}
 
 -- ---- counts and lists without what passes a test
 
@@ -80,16 +80,6 @@ carried_not_own p (Target c q) e = refl
 carried_not_own p Handshake e = absurd cc
 carried_not_own p Manager e = absurd cc
 
-pub held_not_own : (o : Identity) (x : Reference) → is_held x ≡ true → own_to o x ≡ false
-held_not_own o x e = at x.holder refl
-  where
-    at : (h : Holder) → x.holder ≡ h → own_to o x ≡ false
-    at (Asked q) is = grind (arith, is)
-    at (Carried c q) is = grind (arith, is)
-    at (Target c q) is = grind (arith, is)
-    at Handshake is = absurd (let k : is_held x ≡ false = grind (arith, is) in cc)
-    at Manager is = absurd (let k : is_held x ≡ false = grind (arith, is) in cc)
-
 module _ (o : Identity) where
   abbrev pub others : List Reference → List Reference
   others l = filter (λ r. not (same r.object o && is_of_owner r.holder)) l
@@ -129,27 +119,6 @@ module _ (o : Identity) where
 
   module _ (O O' : Identity → Option ObjectRow) (N : ℕ → Identity → Option NameRow) (objects : List Object) (l : List Reference) (h : CountsAre O N objects l)
       (rows : (y : Identity) → O' y ≡ cond (same o y) (option_map disowned (O y)) (O y)) where
-    kept : {A : Type 0} (f : Option ObjectRow → A) → ((w : Option ObjectRow) → f (option_map disowned w) ≡ f w) → (y : Identity) → f (O' y) ≡ f (O y)
-    kept f alike y = ap f (rows y) ∙ at (same o y)
-      where
-        at : (b : Bool) → f (cond b (option_map disowned (O y)) (O y)) ≡ f (O y)
-        at true = alike (O y)
-        at false = refl
-
-    object_kept : (w : Option ObjectRow) → option_map (λ (v : ObjectRow). v.object) (option_map disowned w) ≡ option_map (λ (v : ObjectRow). v.object) w
-    object_kept None = refl
-    object_kept (Some v) = refl
-
-    owner_kept : (p : ℕ) (w : Option ObjectRow) → is_owner p (option_map disowned w) ≡ is_owner p w
-    owner_kept p None = refl
-    owner_kept p (Some v) = refl
-
-    pub disowned_objects : (y : Identity) → option_map (λ (v : ObjectRow). v.object) (O' y) ≡ option_map (λ (v : ObjectRow). v.object) (O y)
-    disowned_objects y = kept (option_map (λ (v : ObjectRow). v.object)) object_kept y
-
-    pub disowned_owners : (p : ℕ) (y : Identity) → is_owner p (O' y) ≡ is_owner p (O y)
-    disowned_owners p y = kept (is_owner p) (owner_kept p) y
-
     -- its own
     own_row : O' o ≡ option_map disowned (O o)
     own_row = rows o ∙ at (same o o) refl

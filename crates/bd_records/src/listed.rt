@@ -1,6 +1,6 @@
 //! A space's names, by their records.
 
-ghost use Rattle.std.specs.Prelude.{ℕ, ◌≡◌, ◌==◌, ◌&&◌, ◌≤◌, ◌+◌, [], true, Some, None, is_some, if◌then◌else◌, not, filter, List, IfOk, OnOk, OnErr};
+ghost use Rattle.std.specs.Prelude.{ℕ, ◌≡◌, ◌==◌, ◌&&◌, ◌≤◌, ◌+◌, Some, None, if◌then◌else◌, not, filter, List, IfOk, OnOk, OnErr};
 ghost use Rattle.bd_keys.specs.Tables.{Makes, Tells};
 ghost use Rattle.bd_space.specs.declared.space.Name as declared;
 ghost use Rattle.bd_space.specs.Names as names_of;
@@ -14,14 +14,6 @@ ghost use Rattle.bd_records.specs.Numbers.{with_number, IsFull, IsNextNumber};
 use crate::names::Names;
 use crate::numbers::NumbersFull;
 use bd_space::Identity;
-use std::alloc::Global;
-
-/// No names.
-pub fn new_names(alloc: Global) -> Names
-    ensures { NamesAre result [] }
-{
-    Names::new(alloc)
-}
 
 /// The object that the number names for the process.
 pub fn named_object(names: &Names, p: u64, n: u32) -> Option<Identity>

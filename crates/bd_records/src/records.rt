@@ -230,16 +230,6 @@ impl Records {
         }
     }
 
-    /// The references go that the owner has to its own object: what it is to acknowledge, and the context manager's.
-    pub fn remove_of_owner(&mut self, o: Identity)
-        ensures stands { Makes self.old self.new (λ l. filter (λ r. not (same r.object o && refer.is_of_owner r.holder)) l) }
-        ensures names { KeepsNames self.old.names self.new.names }
-        ensures settled { KeepsSettled self.old self.new }
-        ensures uses { Uses self.old self.new 0 0 0 }
-    {
-        self.objects.remove_of_owner(o);
-    }
-
     /// Drops all references to the object that the process asked for.
     pub fn drop_all_asked(&mut self, p: u64, o: Identity)
         ensures stands { Makes self.old self.new (λ l. filter (λ r. not (same r.object o && refer.is_asked_by p r.holder)) l) }
