@@ -23,6 +23,9 @@
 
 /* What is kept of freed memory while there is no rest: the most that the C library takes here. */
 #define KEPT_BYTES (32 << 20)
+/* What is larger has a mapping of its own, which goes as a whole: among what lasts it would leave holes, which limits and overcommitment
+   count on. libbinder has no parcel that is as large. */
+#define MAPPED_BYTES (1 << 20)
 
 /* Statuses besides 0. */
 enum { STATUS_FAILED = 1, STATUS_USAGE = 2, STATUS_BUSY = 3 };
@@ -186,7 +189,7 @@ static void keep_memory(void)
     if (getenv("GLIBC_TUNABLES"))
         return;
     mallopt(M_ARENA_MAX, 1);
-    mallopt(M_MMAP_THRESHOLD, KEPT_BYTES);
+    mallopt(M_MMAP_THRESHOLD, MAPPED_BYTES);
     mallopt(M_TRIM_THRESHOLD, KEPT_BYTES);
 }
 

@@ -113,12 +113,26 @@ def remains(build):
     return f"{before} KiB, {'; '.join(told)}"
 
 
+# the part of the machine's memory that a device sets aside, and bytes that are less than that where there is much
+SET_ASIDE, FEW_BYTES = 256, 64 << 20
+
+
+def heap(pid):
+    """Bytes from the beginning of a program's heap to its end, with all holes: limits count them, and they may last."""
+    with open(f"/proc/{pid}/maps", encoding="ascii") as file:
+        ends = [int(it, 16) for line in file if line.rstrip().endswith("[heap]") for it in line.split()[0].split("-")]
+    return max(ends, default=0) - min(ends, default=0)
+
+
 @test("raw set aside", plain_only=True)
 def set_aside(build):
     """Who has much ends also where no memory is left but what is set aside for that; with what the end gives back there is some again."""
     with Stage(build) as stage:
         let_others_in(stage)
+        before = heap(stage.daemon.pid)
         greedy, taken = take_all(stage, build, "deaths")
+        grown, memory = heap(stage.daemon.pid) - before, os.sysconf("SC_PHYS_PAGES") * resource.getpagesize()
+        expect(grown <= max(memory // SET_ASIDE, FEW_BYTES), f"the heap has grown by {grown >> 20} MiB, of which little may ever go")
         with open(f"/proc/{stage.daemon.pid}/statm", encoding="ascii") as file:
             used = int(file.read().split()[0]) * resource.getpagesize()
         resource.prlimit(stage.daemon.pid, resource.RLIMIT_AS, (used, resource.RLIM_INFINITY))
@@ -128,7 +142,7 @@ def set_aside(build):
         resource.prlimit(stage.daemon.pid, resource.RLIMIT_AS, (resource.RLIM_INFINITY, resource.RLIM_INFINITY))
         serves(stage, build)
         expect("the device ends" not in stage.daemon.printed(), f"the daemon: {tail(stage.daemon.printed())}")
-    return f"the owner of {taken:.0f} watched objects has ended, and others are served"
+    return f"the owner of {taken:.0f} watched objects has ended, and others are served; the heap had grown by {grown >> 20} MiB"
 
 
 # threads of a client that never takes descriptors, and how many parcels with as many as a packet takes it sends each of them
