@@ -32,8 +32,8 @@ EDGE, BEFORE = 2**32, 1000
 BEGUN = {"BEGIN_AT": str(EDGE - BEFORE)}
 # so many services whose handles fill more than one page of --state
 SERVICES = 40
-# what goes over it: what lives long, what is named by steps (tickets, buffers, deaths)
-OVER_EDGE = (("descriptors", "200"), ("arrays", "50"), ("nested",), ("places",), ("deaths",), ("told",), ("oneway",))
+# what goes over it: what lives long, what is named by steps (tickets, buffers, deaths, owners)
+OVER_EDGE = (("descriptors", "200"), ("arrays", "50"), ("nested",), ("places",), ("deaths",), ("told",), ("takers",), ("oneway",))
 # malloc gives what isn't used back at once, so that what is measured is used
 GIVES_BACK = {"GLIBC_TUNABLES": "glibc.malloc.trim_threshold=65536:glibc.malloc.mmap_threshold=65536"}
 
