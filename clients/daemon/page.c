@@ -151,12 +151,11 @@ static inline int write_on(struct thread *thread, struct writing *writing)
 static int write_read(struct thread *thread, const struct page_request *request)
 {
     struct writing writing;
-    if (request->stream_size > PAGE_STREAM || request->room > PAGE_RETURNS)
-        return EINVAL;
+    bool fits = request->stream_size <= PAGE_STREAM && request->room <= PAGE_RETURNS;
     writing.request = *request;
-    int error = fetch_descriptors(thread, request->descriptors, true, &writing.hand);
-    if (error)
-        return error;
+    int error = fetch_descriptors(thread, request->descriptors, fits, &writing.hand);
+    if (error || !fits)
+        return fits ? error : EINVAL;
     if (request->stream_size)
         page_copy(writing.stream, thread->page->stream, request->stream_size);
     return write_on(thread, &writing);
@@ -213,13 +212,15 @@ static int give_doorbell(struct thread *thread)
     return 0;
 }
 
-/* Does what a request asks for: 0 or an errno. Where it has begun a read, `settle` answers. */
+/* Does what a request asks for: 0 or an errno. Where it has begun a read, `settle` answers. What came with it stays in the link in no case:
+   else it would be taken for what comes with the thread's next one. */
 static int do_request(struct thread *thread, const struct page_request *request)
 {
-    if (!thread->process->engine_pid) { /* there was no mmap */
+    bool is_mapped = thread->process->engine_pid;
+    if (!is_mapped || request->op != PAGE_WRITE_READ)
         drop_descriptors(thread, request->descriptors);
+    if (!is_mapped)
         return EINVAL;
-    }
     switch (request->op) {
     case PAGE_EXIT_THREAD:
         return exit_thread(thread), 0;

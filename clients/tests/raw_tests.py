@@ -389,6 +389,13 @@ def linger(build):
     return told
 
 
+@test("raw dropped descriptors")
+def dropped(build):
+    """What comes with a request that isn't run, or that takes no descriptors, is closed, and the next one gets its own."""
+    with Stage(build) as stage:
+        return stage.run([build.fuzz("dropped")], client=False)
+
+
 @test("raw hanging")
 def hanging(build):
     """Others needn't wait for descriptors whose closing never ends."""
