@@ -1144,6 +1144,11 @@ typedef struct {
     bool is_all;   /* by these it is told of all that it has sent */
 } hullpippin_returns_told;
 
+/* The least limit of an engine's read: BR_NOOP, and the longest return. */
+#define HULLPIPPIN_READ_LEAST UINT32_C(72)
+/* While so many bytes are left, a thread is told one return more, as in the kernel: there is a longer one there, BR_TRANSACTION_SEC_CTX. */
+#define HULLPIPPIN_RETURN_ROOM UINT32_C(76)
+
 /* A command of the thread was run, HULLPIPPIN_SENT_CALL .., with `stop` and `number` of its answer. */
 void hullpippin_reader_sent(hullpippin_reader *reader, uint32_t kind, uint32_t stop, uint32_t number);
 

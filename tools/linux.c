@@ -53,6 +53,8 @@ IS_LINUX_TYPE(FDA);
 IS_LINUX_TYPE(PTR);
 
 _Static_assert(sizeof(hullpippin_transaction) == sizeof(struct binder_transaction_data), "a transaction record isn't as long as Linux's");
+_Static_assert(HULLPIPPIN_READ_LEAST == 2 * sizeof(uint32_t) + sizeof(struct binder_transaction_data), "the longest return isn't as long as Linux's");
+_Static_assert(HULLPIPPIN_RETURN_ROOM == sizeof(uint32_t) + sizeof(struct binder_transaction_data_secctx), "a return has another room than Linux's");
 
 int main(void)
 {

@@ -104,16 +104,18 @@ static bool tells_what_was_refused(void)
            && is(told_one(&reader, HULLPIPPIN_BR_TRANSACTION_COMPLETE, 4).is_all && !reader.refusal, "the last completion doesn't tell of it");
 }
 
-/* A return more is read while 76 bytes are left behind what there is, and its code, and told while 76 bytes are left. */
+/* A return more is read while so many bytes are left behind what there is, and its code, and told while so many are left. */
 static bool keeps_room(void)
 {
     hullpippin_reader reader = {0};
     struct returns returns = {.size = 0};
     for (int i = 0; i < 3; i++)
         add(&returns, HULLPIPPIN_BR_INCREFS, 20);
-    return is(facts_with(&reader, 4, 256).limit == 244 && facts_with(&reader, 176, 256).limit == 72, "another limit")
-           && is(facts_with(&reader, 0, 80).has_room && !facts_with(&reader, 0, 79).has_room, "another room")
-           && is(!told_into(&reader, &returns, 75).size && told_into(&reader, &returns, 96).size == 40 && told_into(&reader, &returns, 116).size == 60,
+    const uint32_t room = HULLPIPPIN_RETURN_ROOM;
+    return is(facts_with(&reader, 4, 256).limit == 244 && facts_with(&reader, 176, 256).limit == HULLPIPPIN_READ_LEAST, "another limit")
+           && is(facts_with(&reader, 0, room + 4).has_room && !facts_with(&reader, 0, room + 3).has_room, "another room")
+           && is(!told_into(&reader, &returns, room - 1).size && told_into(&reader, &returns, room).size == 20
+                     && told_into(&reader, &returns, room + 20).size == 40 && told_into(&reader, &returns, room + 40).size == 60,
                  "it is told more, or less");
 }
 

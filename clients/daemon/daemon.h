@@ -28,12 +28,6 @@
 /* The engine's pointers begin here, at a window's first byte (docs/RULES.md, "Buffers and windows"). */
 #define WINDOW_BASE UINT64_C(65536)
 
-/* The least limit of the engine's read: BR_NOOP, and the longest return. */
-#define READ_LEAST 72u
-/* A read of a client's hands over one return more while so many bytes are left, as in the kernel: there is a longer one there,
-   BR_TRANSACTION_SEC_CTX. */
-#define RETURN_ROOM 76u
-
 /* A handle that nobody has. */
 #define NO_HANDLE UINT32_MAX
 
@@ -917,7 +911,7 @@ struct thread {
 
     /* Returns that were read from the engine and not handed over yet. Where they are the completion of a call and no
        more, they wait for what is to come (the kernel's deferred completion). */
-    uint8_t pending[PAGE_RETURNS + READ_LEAST];
+    uint8_t pending[PAGE_RETURNS + HULLPIPPIN_READ_LEAST];
     uint32_t pending_size;
     struct landing *landing; /* NULL: no parcel had descriptors yet */
     bool has_sent_objects; /* and not read yet that all was taken that it has sent */

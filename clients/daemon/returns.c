@@ -101,7 +101,7 @@ static __attribute__((noinline)) void take_some_cleared(struct thread *thread)
     uint32_t taken = 0;
     if (thread->pending_size || !cleared->count)
         return;
-    for (; taken < cleared->count && thread->pending_size + RETURN_ROOM + sizeof(uint32_t) <= thread->room
+    for (; taken < cleared->count && thread->pending_size + HULLPIPPIN_RETURN_ROOM + sizeof(uint32_t) <= thread->room
            && is_next(thread, &cleared->all[taken]); taken++) {
         done.cookie = cleared->all[taken].cookie;
         append(thread, (const uint8_t *)&done, sizeof done);
@@ -177,7 +177,7 @@ int returns_take(struct thread *thread)
 /* The least limit leaves no room for the reply behind anything else. */
 int returns_fetch_deferred(struct thread *thread)
 {
-    return returns_facts(thread).fetches ? fetch(thread, READ_LEAST) : EAGAIN;
+    return returns_facts(thread).fetches ? fetch(thread, HULLPIPPIN_READ_LEAST) : EAGAIN;
 }
 
 hullpippin_facts returns_facts(const struct thread *thread)
@@ -192,7 +192,7 @@ int returns_fetch_sent(struct thread *thread)
 {
     int error = 0;
     while (!error && returns_facts(thread).is_left)
-        error = fetch(thread, READ_LEAST);
+        error = fetch(thread, HULLPIPPIN_READ_LEAST);
     return error;
 }
 

@@ -1092,6 +1092,13 @@ pub struct hullpippin_returns_told {
     pub is_all: bool,
 }
 
+/// The least limit of an engine's read: BR_NOOP, and the longest return.
+pub const HULLPIPPIN_READ_LEAST: u32 = 72;
+
+/// While so many bytes are left, a thread is told one return more, as in the kernel: there is a longer one there,
+/// BR_TRANSACTION_SEC_CTX.
+pub const HULLPIPPIN_RETURN_ROOM: u32 = 76;
+
 /// What a bridge is to be told of a thread by: which calls of it, in this order. Of the first two there is one at most.
 #[repr(C)]
 #[derive(Clone, Copy, Debug, Default, PartialEq, Eq)]
