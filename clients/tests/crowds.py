@@ -284,7 +284,8 @@ def refused_parcels(build):
 def looks(build):
     """The daemon doesn't look at everybody who waits or polls, whatever comes."""
     lines = []
-    for kind, whom in (("idle", "processes that wait"), ("pollers", "threads of who serves that poll")):
+    for kind, whom in (("idle", "processes that wait"), ("pollers", "threads of who serves that poll"),
+                       ("waiters", "threads of who serves that wait")):
         with Stage(build) as stage:
             told = stage.run([build.raw("beside"), kind, "200", "3000"])
             found = counts(stage)

@@ -2,7 +2,8 @@
 /*
  * beside idle|callers COUNT [CALLS]: what a call takes beside so many others who do nothing: processes whose looper waits, or threads
  * of one process that wait for the reply of a call which nobody answers. Prints medians alone and beside them, and the longest of the
- * calls while all of them end, in microseconds. `beside pollers COUNT [CALLS]` is beside so many threads of who serves, which poll.
+ * calls while all of them end, in microseconds. `beside pollers|waiters COUNT [CALLS]` is beside so many threads of who serves, which poll
+ * or wait for a call.
  *
  * beside idle|callers|services COUNT CALLS counted: makes so many calls beside them, for who counts what these take: a line tells that the
  * crowd is there, one that the calls are made, and behind each it waits for one. Services are processes that have given their object
@@ -127,17 +128,19 @@ static void be_callers(void *with)
     pause();
 }
 
-struct polled {
+/* Who serves, and its other threads. */
+struct server {
     struct client client;
     size_t count;
+    void *(*others)(void *with);
 };
 
 static void *poll_for_ever(void *with)
 {
-    struct polled *polled = with;
+    struct server *server = with;
     struct looper looper;
-    struct pollfd waits = {.fd = polled->client.binder.fd, .events = POLLIN};
-    raw_looper(&looper, &polled->client, NULL);
+    struct pollfd waits = {.fd = server->client.binder.fd, .events = POLLIN};
+    raw_looper(&looper, &server->client, NULL);
     put_code(&looper.commands, BC_ENTER_LOOPER);
     put_code(&looper.commands, BC_EXIT_LOOPER); /* what comes to the process is none of its business */
     CHECK(looper_flush(&looper), "can't be a thread");
@@ -145,21 +148,35 @@ static void *poll_for_ever(void *with)
     return NULL;
 }
 
-static void manage_polled(void *with)
+/* Who waits last is called first, which is none of these. */
+static void *wait_for_ever(void *with)
 {
-    static struct polled polled;
+    struct server *server = with;
+    struct looper looper;
+    raw_looper(&looper, &server->client, serve);
+    looper_run(&looper);
+    return NULL;
+}
+
+static void manage_beside(void *with)
+{
+    struct server *server = with;
     pthread_attr_t attributes;
     pthread_t thread;
-    polled.count = *(size_t *)with;
-    raw_open(&polled.client, WINDOW, serve);
-    CHECK(binder_become_manager(&polled.client.binder), "can't be the context manager");
+    raw_open(&server->client, WINDOW, serve);
+    CHECK(binder_become_manager(&server->client.binder), "can't be the context manager");
     pthread_attr_init(&attributes);
     pthread_attr_setstacksize(&attributes, STACK);
-    for (size_t i = 0; i < polled.count; i++)
-        CHECK(!pthread_create(&thread, &attributes, poll_for_ever, &polled), "thread %zu", i);
-    usleep(500000); /* until all poll */
+    for (size_t i = 0; i < server->count; i++)
+        CHECK(!pthread_create(&thread, &attributes, server->others, server), "thread %zu", i);
+    usleep(500000); /* until all poll, or wait */
     raw_ready();
-    looper_run(&polled.client.looper);
+    looper_run(&server->client.looper);
+}
+
+static void *(*others_of(const char *kind))(void *with)
+{
+    return !strcmp(kind, "pollers") ? poll_for_ever : !strcmp(kind, "waiters") ? wait_for_ever : NULL;
 }
 
 static double call_once(struct client *client)
@@ -195,7 +212,7 @@ static double longest_while(struct client *client, const pid_t *pids, size_t cou
 static size_t start_crowd(const char *kind, size_t count, pid_t *pids)
 {
     bool are_callers = !strcmp(kind, "callers");
-    size_t processes = are_callers ? count > 0 : strcmp(kind, "pollers") ? count : 0;
+    size_t processes = are_callers ? count > 0 : others_of(kind) ? 0 : count;
     for (size_t i = 0; i < processes; i++)
         pids[i] = raw_start(are_callers ? be_callers : !strcmp(kind, "services") ? serve_others : wait_idle, &count);
     return processes;
@@ -230,7 +247,7 @@ static void be_counted(struct client *client, const char *kind, size_t count, pi
 
 int main(int argc, char **argv)
 {
-    CHECK(argc >= 3, "beside idle|callers|services|pollers COUNT [CALLS [counted]]");
+    CHECK(argc >= 3, "beside idle|callers|services|pollers|waiters COUNT [CALLS [counted]]");
     size_t count = strtoul(argv[2], NULL, 10), calls = argc > 3 ? strtoul(argv[3], NULL, 10) : 2000;
     bool is_counted = argc > 4;
     pid_t *pids = calloc(count + 1, sizeof *pids);
@@ -238,8 +255,8 @@ int main(int argc, char **argv)
     struct client client;
     CHECK(pids && times && calls && (count || is_counted), "nothing to be measured");
     raw_begin(is_counted ? 1200 : 150);
-    bool are_pollers = !strcmp(argv[1], "pollers");
-    pid_t manager = are_pollers ? raw_start(manage_polled, &count) : raw_start_manager(serve), owner = raw_start(own_object, NULL);
+    struct server server = {.count = count, .others = others_of(argv[1])};
+    pid_t manager = server.others ? raw_start(manage_beside, &server) : raw_start_manager(serve), owner = raw_start(own_object, NULL);
     raw_open(&client, WINDOW, NULL);
     if (is_counted)
         be_counted(&client, argv[1], count, pids, times, calls);

@@ -124,6 +124,7 @@ static void poll_for_reply(int fd)
     CHECK(poll(&file, 1, RAW_PATIENCE) == 1, "poll doesn't tell of the reply");
 }
 
+/* Without a function the read begins with the write, and waits before there is anything. */
 static void defers(void (*before)(int fd))
 {
     static const uint32_t wanted[] = {BR_INCREFS, BR_ACQUIRE, BR_TRANSACTION_COMPLETE, BR_REPLY};
@@ -135,9 +136,11 @@ static void defers(void (*before)(int fd))
     struct binder_transaction_data call = record_of(&object);
     call.code = TAKE;
     put_record(&client.looper.commands, BC_TRANSACTION, &call);
-    CHECK(looper_flush(&client.looper), "can't write");
-    before(client.binder.fd);
-    ssize_t count = read_codes(client.binder.fd, codes);
+    if (before) {
+        CHECK(looper_flush(&client.looper), "can't write");
+        before(client.binder.fd);
+    }
+    ssize_t count = write_and_read_codes(client.binder.fd, &client.looper.commands, codes);
     CHECK(count == 4 && !memcmp(codes, wanted, sizeof wanted), "%zd returns came with the reply, of which the first is %x", count, codes[0]);
     writer_free(&object);
     binder_close(&client.binder);
@@ -443,6 +446,7 @@ int main(void)
     pid_t manager = raw_start_manager(serve);
     defers(read_nothing);
     defers(poll_for_reply);
+    defers(NULL);
     defers_behind_clearing_in_vain();
     tells_another();
     if (raw_daemon())
