@@ -9,8 +9,6 @@ mod reach;
 mod resting;
 mod signal;
 mod suspects;
-#[cfg(test)]
-mod tests;
 mod waiters;
 
 pub use bridge::Bridge;

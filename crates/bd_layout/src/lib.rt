@@ -6,8 +6,6 @@ mod fixup;
 mod landing;
 mod laws;
 mod layout;
-#[cfg(test)]
-mod tests;
 mod walk;
 
 pub use buffer::OpenBuffer;

@@ -5,8 +5,6 @@ mod facts;
 mod laws;
 mod reader;
 mod returns;
-#[cfg(test)]
-mod tests;
 
 pub use facts::{Facts, Pending};
 pub use laws::{completions_are_counted, what_cannot_wait_is_told, what_was_refused_is_told_first};

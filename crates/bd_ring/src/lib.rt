@@ -4,8 +4,6 @@
 mod laws;
 mod nodes;
 mod rings;
-#[cfg(test)]
-mod tests;
 
 pub use laws::{each_ring_has_its_turns, nobody_has_more_turns, nobody_has_two_turns_meanwhile};
 pub use rings::Rings;

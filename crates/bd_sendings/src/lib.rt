@@ -6,8 +6,6 @@ mod laws;
 mod noted;
 mod sendings;
 mod sent;
-#[cfg(test)]
-mod tests;
 
 pub use laws::{
     each_is_known_once, nobody_is_told_twice, what_is_unknown_stays, who_is_told_has_sent_it,

@@ -3,8 +3,6 @@
 
 mod came;
 mod shelves;
-#[cfg(test)]
-mod tests;
 mod tickets;
 
 pub use came::{kept_descriptors, what_comes_is_kept_whole};

@@ -6,8 +6,6 @@ mod coming;
 mod laws;
 mod loopers;
 mod requests;
-#[cfg(test)]
-mod tests;
 mod waits;
 
 pub use cleared::{Cleared, Clearing, clears};

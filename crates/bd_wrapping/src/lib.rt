@@ -3,8 +3,6 @@
 
 mod laws;
 mod parts;
-#[cfg(test)]
-mod tests;
 mod trailer;
 mod way;
 

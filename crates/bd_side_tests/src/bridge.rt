@@ -3,7 +3,8 @@
 ghost use Rattle.std.specs.Prelude.{◌≡◌, ◌<◌, IfOk};
 ghost use Rattle.bd_bridge.specs.Waiting.{seats_in};
 
-use crate::{Bridge, Engine, Reached, Reading, Signal, TodoList};
+use crate::same::{holds, same};
+use bd_bridge::{Bridge, Engine, Reached, Reading, Signal, TodoList};
 use std::alloc::Global;
 use std::test::Fail;
 
@@ -177,14 +178,14 @@ fn a_read_is_woken_once(rt: HostRuntime) -> Result<(), Fail> {
     let mut bridge = new_bridge(rt.alloc())?;
     bridge.wait(rt.alloc(), 1, READING).ok().ok_or("memory")?;
     bridge.wait(rt.alloc(), 2, READING).ok().ok_or("memory")?;
-    assert_eq!(rt; told(rt.alloc(), &mut bridge)?, 0);
+    same(&rt, "both wait", told(rt.alloc(), &mut bridge)?, 0);
     make(&mut bridge, 3, arrive(TodoList::OfProcess(PROCESS), 2));
     make(&mut bridge, 3, arrive(TodoList::OfSeat(2), 2));
-    assert_eq!(rt; told(rt.alloc(), &mut bridge)?, 12);
-    assert_eq!(rt; told(rt.alloc(), &mut bridge)?, 0);
-    assert!(rt; bridge.waiter(2).is_none());
-    assert!(rt; bridge.waiter(1).is_some());
-    assert_eq!(rt; bridge.suspects(), 0);
+    same(&rt, "seat 2 is woken", told(rt.alloc(), &mut bridge)?, 12);
+    same(&rt, "it is told once", told(rt.alloc(), &mut bridge)?, 0);
+    holds(&rt, "seat 2 waits no more", bridge.waiter(2).is_none());
+    holds(&rt, "seat 1 waits on", bridge.waiter(1).is_some());
+    same(&rt, "nobody is to be looked at", bridge.suspects(), 0);
     Ok(())
 }
 
@@ -193,15 +194,16 @@ fn a_doorbell_rings_until_all_is_read(rt: HostRuntime) -> Result<(), Fail> {
     let mut bridge = new_bridge(rt.alloc())?;
     bridge.give_doorbell(rt.alloc(), 2).ok().ok_or("memory")?;
     make(&mut bridge, 3, arrive(TodoList::OfSeat(2), 2));
-    assert_eq!(rt; told(rt.alloc(), &mut bridge)?, 32);
+    let got = told(rt.alloc(), &mut bridge)?;
+    same(&rt, "its doorbell rings", got, 32);
     bridge.wait(rt.alloc(), 2, READING).ok().ok_or("memory")?;
-    assert_eq!(rt; told(rt.alloc(), &mut bridge)?, 1242);
+    same(&rt, "all is read", told(rt.alloc(), &mut bridge)?, 1242);
     bridge.wait(rt.alloc(), 2, READING).ok().ok_or("memory")?;
     bridge.stop_reading(2);
     make(&mut bridge, 3, arrive(TodoList::OfSeat(2), 2));
-    assert_eq!(rt; told(rt.alloc(), &mut bridge)?, 32);
+    same(&rt, "it rings again", told(rt.alloc(), &mut bridge)?, 32);
     bridge.stop_waiting(2);
-    assert_eq!(rt; told(rt.alloc(), &mut bridge)?, 0);
+    same(&rt, "nobody waits", told(rt.alloc(), &mut bridge)?, 0);
     Ok(())
 }
 
@@ -215,9 +217,10 @@ fn what_can_wait_waits(rt: HostRuntime) -> Result<(), Fail> {
     };
     bridge.wait(rt.alloc(), 1, reading).ok().ok_or("memory")?;
     make(&mut bridge, 1, arrive(TodoList::OfSeat(1), 1));
-    assert_eq!(rt; told(rt.alloc(), &mut bridge)?, 21);
+    let got = told(rt.alloc(), &mut bridge)?;
+    same(&rt, "it reads and waits on", got, 21);
     make(&mut bridge, 3, arrive(TodoList::OfSeat(1), 1));
-    assert_eq!(rt; told(rt.alloc(), &mut bridge)?, 11);
+    same(&rt, "it is woken", told(rt.alloc(), &mut bridge)?, 11);
     Ok(())
 }
 
@@ -234,21 +237,15 @@ fn what_can_rest_rests(rt: HostRuntime) -> Result<(), Fail> {
     let mut bridge = new_bridge(rt.alloc())?;
     make(&mut bridge, 1, one_more(1));
     bridge.wait(rt.alloc(), 1, RESTING).ok().ok_or("memory")?;
-    assert_eq!(rt; told(rt.alloc(), &mut bridge)?, 0);
+    same(&rt, "one thing rests", told(rt.alloc(), &mut bridge)?, 0);
     make(&mut bridge, 3, arrive(TodoList::OfSeat(3), 1));
-    assert_eq!(rt;
-        told(rt.alloc(), &mut bridge)?,
-        21,
-        "the first that is read can wait"
-    );
+    let first = told(rt.alloc(), &mut bridge)?;
+    same(&rt, "the first that is read can wait", first, 21);
     make(&mut bridge, 3, one_more(3));
-    assert_eq!(rt;
-        told(rt.alloc(), &mut bridge)?,
-        0,
-        "it rests, since one thing is left"
-    );
+    let second = told(rt.alloc(), &mut bridge)?;
+    same(&rt, "it rests, since one thing is left", second, 0);
     make(&mut bridge, 3, arrive(TodoList::OfSeat(3), 1));
-    assert_eq!(rt; told(rt.alloc(), &mut bridge)?, 11);
+    same(&rt, "it is woken", told(rt.alloc(), &mut bridge)?, 11);
     Ok(())
 }
 
@@ -261,13 +258,10 @@ fn two_rest_at_a_time(rt: HostRuntime) -> Result<(), Fail> {
     bridge.wait(rt.alloc(), 0, RESTING).ok().ok_or("memory")?;
     bridge.wait(rt.alloc(), 1, RESTING).ok().ok_or("memory")?;
     bridge.wait(rt.alloc(), 2, RESTING).ok().ok_or("memory")?;
-    assert_eq!(rt;
-        told(rt.alloc(), &mut bridge)?,
-        20,
-        "who has rested for longest"
-    );
-    assert_eq!(rt; bridge.suspects(), 0);
-    assert!(rt; bridge.waiter(0).is_some());
+    let all = told(rt.alloc(), &mut bridge)?;
+    same(&rt, "who has rested for longest", all, 20);
+    same(&rt, "nobody is to be looked at", bridge.suspects(), 0);
+    holds(&rt, "it waits on", bridge.waiter(0).is_some());
     Ok(())
 }
 
@@ -277,13 +271,14 @@ fn who_was_named_first_is_told_first(rt: HostRuntime) -> Result<(), Fail> {
     bridge.give_doorbell(rt.alloc(), 1).ok().ok_or("memory")?;
     bridge.give_doorbell(rt.alloc(), 2).ok().ok_or("memory")?;
     bridge.give_doorbell(rt.alloc(), 3).ok().ok_or("memory")?;
-    assert_eq!(rt; told(rt.alloc(), &mut bridge)?, 0);
+    same(&rt, "none rings", told(rt.alloc(), &mut bridge)?, 0);
     make(&mut bridge, 0, one_more(2));
     make(&mut bridge, 0, one_more(1));
     make(&mut bridge, 0, one_more(3));
     make(&mut bridge, 0, one_more(2));
-    assert_eq!(rt; bridge.suspects(), 3, "each stands there once");
-    assert_eq!(rt; told(rt.alloc(), &mut bridge)?, 32_31_33);
+    same(&rt, "each stands there once", bridge.suspects(), 3);
+    let got = told(rt.alloc(), &mut bridge)?;
+    same(&rt, "in their order", got, 32_31_33);
     Ok(())
 }
 
@@ -291,11 +286,11 @@ fn who_was_named_first_is_told_first(rt: HostRuntime) -> Result<(), Fail> {
 fn seats_above_all_that_have_waited_are_not_looked_at(rt: HostRuntime) -> Result<(), Fail> {
     let mut bridge = new_bridge(rt.alloc())?;
     make(&mut bridge, 0, one_more(4));
-    assert_eq!(rt; bridge.suspects(), 0, "nobody has waited");
+    same(&rt, "nobody has waited", bridge.suspects(), 0);
     bridge.wait(rt.alloc(), 1, READING).ok().ok_or("memory")?;
-    assert_eq!(rt; told(rt.alloc(), &mut bridge)?, 0);
+    same(&rt, "it waits", told(rt.alloc(), &mut bridge)?, 0);
     make(&mut bridge, 0, one_more(4));
-    assert_eq!(rt; bridge.suspects(), 2, "seats 0 and 1");
+    same(&rt, "seats 0 and 1", bridge.suspects(), 2);
     Ok(())
 }
 
@@ -305,20 +300,19 @@ fn one_signal_comes_at_a_time(rt: HostRuntime) -> Result<(), Fail> {
     let mut bridge = new_bridge(rt.alloc())?;
     bridge.wait(rt.alloc(), 1, READING).ok().ok_or("memory")?;
     bridge.wait(rt.alloc(), 2, READING).ok().ok_or("memory")?;
-    assert!(rt;
-        bridge.settle_one(4, &mut reads).is_none(),
-        "there is nothing to read"
-    );
+    let is_none = bridge.settle_one(4, &mut reads).is_none();
+    holds(&rt, "there is nothing to read", is_none);
     make(&mut bridge, 3, arrive(TodoList::OfSeat(2), 2));
-    assert!(rt; !bridge.is_settled(), "somebody is to be looked at");
+    holds(&rt, "somebody is to be looked at", !bridge.is_settled());
     match bridge.settle_one(4, &mut reads) {
         Some(Signal::Read { seat, wakes, .. }) => {
-            assert_eq!(rt; seat, 2);
-            assert!(rt; wakes);
+            same(&rt, "seat 2", seat, 2);
+            holds(&rt, "is woken", wakes);
         }
         _ => return Err("nobody was woken".into()),
     }
-    assert!(rt; bridge.settle_one(4, &mut reads).is_none());
-    assert!(rt; bridge.is_settled());
+    let is_none = bridge.settle_one(4, &mut reads).is_none();
+    holds(&rt, "no other is", is_none);
+    holds(&rt, "nobody is left", bridge.is_settled());
     Ok(())
 }

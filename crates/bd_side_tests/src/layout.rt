@@ -1,6 +1,7 @@
 //! Parcels whose layout was worked out by hand from the driver's rule.
 
-use crate::lay_out;
+use crate::same::{holds, same};
+use bd_layout::lay_out;
 use bd_uapi::codes::{FD, FDA, PTR};
 use bd_uapi::numbers::{put_u32, put_u64, u64_at};
 use std::test::Fail;
@@ -35,7 +36,7 @@ fn addresses_go_where_they_belong(rt: HostRuntime) -> Result<(), Fail> {
     let mut bytes = [0; 240];
     assert_eq!(rt; layout.bytes().len(), 240);
     bytes.copy_from_slice(layout.bytes());
-    assert_eq!(rt; u64_at(&bytes, 232), 0x41);
+    same(&rt, "the last buffer", u64_at(&bytes, 232), 0x41);
     layout.put_fixups(&mut bytes, 0x7000);
     for (at, to) in [(16, 152), (56, 168), (152, 168), (96, 232), (160, 232)] {
         assert_eq!(rt; u64_at(&bytes, at), 0x7000 + to, "at {at}");
@@ -75,21 +76,21 @@ fn descriptors_have_places(rt: HostRuntime) -> Result<(), Fail> {
     let few = lay_out(rt.alloc(), &descriptors(), &places, &[0x41; 64], 2)
         .ok()
         .ok_or("memory")?;
-    assert!(rt; few.is_none(), "two came");
+    holds(&rt, "two are too few", few.is_none());
     let sent = lay_out(rt.alloc(), &descriptors(), &places, &[0x41; 64], 4)
         .ok()
         .ok_or("memory")?;
     let layout = sent.ok_or("it is refused")?;
-    assert_eq!(rt; layout.taken(), 3);
-    assert_eq!(rt; layout.known().len(), 0);
-    assert_eq!(rt; layout.fixups().len(), 3);
+    same(&rt, "how many it takes", layout.taken(), 3);
+    same(&rt, "objects of the engine", layout.known().len(), 0);
+    same(&rt, "fix-ups", layout.fixups().len(), 3);
     // The data, the offsets at 104, the buffer at 128.
     let mut bytes = [0; 192];
     assert_eq!(rt; layout.bytes().len(), 192);
     bytes.copy_from_slice(layout.bytes());
     layout.put_fixups(&mut bytes, 0x7000);
-    assert_eq!(rt; u64_at(&bytes, 16), 0x7000 + 128);
-    assert_eq!(rt; u64_at(&bytes, 128 + 8), u64::MAX);
-    assert_eq!(rt; u64_at(&bytes, 80 + 8), 0xffff_ffff);
+    same(&rt, "the address", u64_at(&bytes, 16), 0x7000 + 128);
+    same(&rt, "both of the array", u64_at(&bytes, 128 + 8), u64::MAX);
+    same(&rt, "its own", u64_at(&bytes, 80 + 8), 0xffff_ffff);
     Ok(())
 }
