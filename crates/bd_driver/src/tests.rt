@@ -1,3 +1,5 @@
+//! A serve that is stopped midway. The test calls its private parts one by one, which a crate of tests alone couldn't.
+
 ghost use Rattle.std.specs.Prelude.{◌≡◌, IfOk, IfSome, All};
 
 use crate::{Driver, Outcome, Page, Seat, Served, Why};
