@@ -3,8 +3,9 @@
  * crossed SECONDS [IDLE]: parcels that are on their way at once stay apart. A process calls a service again and again with objects
  * and buffers, of which the daemon keeps some beside the engine: one alone, so that the service often waits. Another one calls an
  * echo, each time by a handle that it has just got, which has the daemon look for who is called, and for all that is to be read by
- * others, before the call. Those that only wait make that take its time, and the daemon is stopped now and then, so that what all
- * want of it comes at once. That goes on for so many seconds, and for LEAST calls.
+ * others, before the call. In the same write stands a one-way call of the service before it, with a buffer, which is to be read once the
+ * write is done: read between the two, it would come where the other one's parcel lies. Those that only wait make all that take its time, and
+ * the daemon is stopped now and then, so that what all want of it comes at once. That goes on for so many seconds, and for LEAST calls.
  */
 #include "raw.h"
 
@@ -16,6 +17,7 @@
 enum { KEEP_SINK = 1, KEEP_ECHO, HAND_SINK, HAND_ECHO };
 
 #define BYTES 3000
+#define LITTLE 64
 #define MOST 512
 #define LEAST 300
 #define STOPPED 5000 /* microseconds */
@@ -70,6 +72,15 @@ static void wait_idle(void *with)
     looper_run(&client.looper);
 }
 
+static uint32_t fetch_sink(struct client *client)
+{
+    struct binder_transaction_data reply;
+    CHECK(raw_call(&client->looper, (struct call){.code = HAND_SINK}, &reply) == BR_REPLY, "no service is handed over");
+    uint32_t handle = raw_keep(&client->looper, &reply);
+    looper_free(&client->looper, &reply);
+    return handle;
+}
+
 static void send_on(void *with)
 {
     static uint8_t bytes[BYTES];
@@ -78,9 +89,7 @@ static void send_on(void *with)
     (void)with;
     memset(bytes, 0xee, sizeof bytes);
     raw_open(&client, WINDOW, NULL);
-    CHECK(raw_call(&client.looper, (struct call){.code = HAND_SINK}, &reply) == BR_REPLY, "no service is handed over");
-    uint32_t handle = raw_keep(&client.looper, &reply);
-    looper_free(&client.looper, &reply);
+    uint32_t handle = fetch_sink(&client);
     raw_ready();
     for (;;) {
         struct writer writer = {0};
@@ -103,22 +112,37 @@ static void hold_up(void *with)
     }
 }
 
+/* A one-way call, which stands before whatever is written next. */
+static void put_one_way(struct looper *looper, uint32_t handle, struct writer *writer)
+{
+    static const uint8_t bytes[LITTLE];
+    write_buffer(writer, bytes, sizeof bytes, -1, 0);
+    struct binder_transaction_data call = record_of(writer);
+    CHECK(!writer->failed, "no memory");
+    call.target.handle = handle;
+    call.flags |= TF_ONE_WAY;
+    put_record_sg(&looper->commands, BC_TRANSACTION_SG, &call, writer->buffers);
+}
+
 /* The handle isn't kept, so that it is another one, or means something else, with each turn. */
-static void call_echo(struct client *client, uint32_t number)
+static void call_echo(struct client *client, uint32_t sink, uint32_t number)
 {
     static uint32_t bytes[BYTES / sizeof(uint32_t)];
     struct binder_transaction_data handed, reply;
     struct flat_binder_object object;
+    struct writer writer = {0};
     CHECK(raw_call(&client->looper, (struct call){.code = HAND_ECHO}, &handed) == BR_REPLY, "no echo is handed over");
     memcpy(&object, raw_data(&handed), sizeof object);
     for (size_t i = 0; i < sizeof bytes / sizeof *bytes; i++)
         bytes[i] = number + (uint32_t)i;
     struct call call = {.handle = object.handle, .bytes = bytes, .size = sizeof bytes};
+    put_one_way(&client->looper, sink, &writer);
     CHECK(raw_call(&client->looper, call, &reply) == BR_REPLY, "call %u wasn't answered", number);
     CHECK(reply.data_size == sizeof bytes && !memcmp(raw_data(&reply), bytes, sizeof bytes),
           "the echo of call %u has other bytes", number);
     looper_free(&client->looper, &reply);
     looper_free(&client->looper, &handed);
+    writer_free(&writer);
 }
 
 int main(int argc, char **argv)
@@ -137,10 +161,11 @@ int main(int argc, char **argv)
     all[count++] = raw_start(run_sink, NULL);
     all[count++] = raw_start(send_on, NULL);
     raw_open(&client, WINDOW, NULL);
+    uint32_t sink = fetch_sink(&client);
     if (raw_daemon())
         all[count++] = raw_start(hold_up, NULL);
     for (until += raw_now(); calls < LEAST || raw_now() < until; calls++)
-        call_echo(&client, calls);
+        call_echo(&client, sink, calls);
     printf("%u calls beside one that sends parcels with buffers\n", calls);
     while (count)
         raw_kill(all[--count]);
