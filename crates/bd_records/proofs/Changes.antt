@@ -1,5 +1,5 @@
 -- What the calls on maps leave, where they succeed.
-use Rattle.std.proofs.Common.{◌≡◌, ℕ, ◌+◌, Bool, true, false, not, if◌then◌else◌, List, Option, Some, None, Result, Ok, Err, OnOk, IfOk, IfNone, IsOk, is_some, option_map, find, refl, ap, sym, subst, ◌∙◌}
+use Rattle.std.proofs.Common.{◌≡◌, Bool, true, false, not, List, Option, Some, None, option_map, find, refl, ap, sym, subst, ◌∙◌}
 use Rattle.bd_keys.proofs.Found.{found_passes}
 use Rattle.bd_keys.specs.declared.key.WordKey.{WordKey}
 use Rattle.bd_keys.specs.Keys.{same_word}
@@ -12,21 +12,6 @@ use Rattle.bd_records.specs.ObjectKeys.{id_key, own_key}
 use Rattle.bd_records.specs.Maps.{AreDistinct}
 use Rattle.bd_space.proofs.Identities.{same_eq, same_self}
 use Rattle.bd_records.proofs.Found.{found_own}
-
-pub ok_then : {T E P : Type 0} (r : Result T E) → IsOk r → OnOk r P → P
-ok_then (Ok x) ok h = h
-ok_then (Err e) ok h = absurd (cc)
-
-pub none_then : {A P : Type 0} (o : Option A) → o ≡ None → IfNone o P → P
-none_then None e h = h
-none_then (Some x) e h = absurd (cc)
-
--- one more entry, where there was none at the key
-pub len_new : {V E : Type 0} (r : Result (Option V) E) (n m : ℕ) (was : Option V) → IsOk r → IfOk r (λ old. old ≡ was)
-    → IfOk r (λ old. n ≡ m + (if is_some old then 0 else 1))
-    → was ≡ None → n ≡ m + 1
-len_new (Ok old) n m was ok e l none = l ∙ ap (λ o. m + (if is_some o then 0 else 1)) (e ∙ none)
-len_new (Err e) n m was ok f l none = absurd (cc)
 
 -- an own object is found by its identity
 pub by_own : (objects : List Object) (k : WordKey) (o : Identity) → AreDistinct id_key same objects

@@ -1,15 +1,11 @@
 -- What is found by its key, in a list of which no two elements have one key.
-use Rattle.std.proofs.Common.{◌≡◌, suc, ◌+◌, Bool, true, false, not, ◌&&◌, cond, List, [], ◌∷◌, Option, Some, None, find, filter, length, option_map, refl, ap, sym, subst, ◌∙◌, arith}
+use Rattle.std.proofs.Common.{◌≡◌, Bool, true, false, ◌&&◌, cond, List, [], ◌∷◌, Option, Some, None, find, filter, option_map, refl, ap, sym, subst, ◌∙◌}
 use Rattle.bd_space.specs.Words.{changed}
 use Rattle.bd_records.specs.ObjectKeys.{kept}
 use Rattle.bd_records.specs.Maps.{AreDistinct}
-use Rattle.bd_records.proofs.Distinct.{cons_none, none_cons, filter_none, away_none}
+use Rattle.bd_records.proofs.Distinct.{cons_none, none_cons, filter_none}
 
 -- what is found passes
-
-pub option_same : {A : Type 0} (o : Option A) → option_map (λ x. x) o ≡ o
-option_same None = refl
-option_same (Some x) = refl
 
 module _ {A K : Type 0} (key : A → K) (eq : K → K → Bool) (alike : (a b : K) → eq a b ≡ true → a ≡ b)
     (itself : (a : K) → eq a a ≡ true) where
@@ -96,28 +92,6 @@ module _ {A K : Type 0} (key : A → K) (eq : K → K → Bool) (alike : (a b : 
           → cond (b && q y) (Some y) both ≡ kept q (cond b (Some y) (find (on k) ys))
       by true e h = ap (λ o. cond (q y) (Some y) o) (and_none q k ys (past y ys k d.0 e))
       by false e h = h
-
-  -- without the one that has the key
-  pub length_without : (k : K) (x : A) (xs : List A) → AreDistinct key eq xs → find (on k) xs ≡ Some x
-      → length (filter (λ y. not (on k y)) xs) + 1 ≡ length xs
-  length_without k x [] d h = absurd (cc)
-  length_without k x (y ∷ ys) d h = by (on k y) refl h (length_without k x ys d.1)
-    where
-      away : List A
-      away = filter (λ z. not (on k z)) ys
-
-      by : (b : Bool) → on k y ≡ b → cond b (Some y) (find (on k) ys) ≡ Some x
-          → (find (on k) ys ≡ Some x → length away + 1 ≡ length ys)
-          → length (cond (not b) (y ∷ away) away) + 1 ≡ suc (length ys)
-      by true e h further = let all = ap length (away_none key eq k ys (past y ys k d.0 e)) in omega (arith, all)
-      by false e h further = let rest = further h in omega (arith, rest)
-
-  -- a change where nothing has the key
-  pub changed_nothing : (k : K) (f : A → A) (xs : List A) → find (on k) xs ≡ None → changed (on k) f xs ≡ xs
-  changed_nothing k f [] h = refl
-  changed_nothing k f (x ∷ xs) h =
-      let c = cons_none (on k x) x (find (on k) xs) h in
-      ap (λ b. cond b (f x) x ∷ changed (on k) f xs) c.0 ∙ ap (λ ys. x ∷ ys) (changed_nothing k f xs c.1)
 
   -- of a changed list, where the keys stay
   module _ (p : A → Bool) (f : A → A) (stays : (x : A) → key (f x) ≡ key x) where

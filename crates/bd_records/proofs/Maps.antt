@@ -2,12 +2,11 @@
 use Rattle.std.proofs.Common.{◌≡◌, Bool, true, false, not, cond, List, [], ◌∷◌, ◌++◌, Option, Some, None, find, filter, option_map, refl, ap, sym, subst, ◌∙◌}
 use Rattle.std.specs.Option.{option_or}
 use Rattle.std.proofs.lemmas.List.Folds.{find-append}
-use Rattle.bd_keys.proofs.Found.{found_passes}
 use Rattle.bd_keys.proofs.Options.{or_none}
 use Rattle.bd_space.specs.Words.{changed}
 use Rattle.bd_records.specs.ObjectKeys.{kept}
 use Rattle.bd_records.specs.Maps.{AreDistinct, Finds}
-use Rattle.bd_records.proofs.Found.{found_filter, found_changed, turned, turn}
+use Rattle.bd_records.proofs.Found.{found_filter, found_changed}
 
 neither : {A : Type 0} (b : Bool) (o : Option A) → o ≡ None → cond b None o ≡ None
 neither true o h = refl
@@ -68,41 +67,3 @@ module _ {A K V : Type 0} (key : A → K) (eq : K → K → Bool) (alike : (a b 
       at : (o : Option A) → option_map shown o ≡ option_map shown (option_map (λ x. cond (p x) (g x) x) o)
       at None = refl
       at (Some x) = ap Some (hidden (p x) x)
-
-module _ {A K : Type 0} (key : A → K) (eq : K → K → Bool) (alike : (a b : K) → eq a b ≡ true → a ≡ b)
-    (itself : (a : K) → eq a a ≡ true) where
-  -- the one at the key k is changed
-  pub finds_changed : (m n : K → Option A) (xs : List A) (k : K) (x : A) (g : A → A) → ((x : A) → key (g x) ≡ key x)
-      → Finds eq key (λ x. x) m xs → find (λ y. eq (key y) k) xs ≡ Some x → Puts eq m n k (Some (g x))
-      → Finds eq key (λ x. x) n (changed (λ y. eq (key y) k) g xs)
-  finds_changed m n xs k x g stays f has puts =
-      λ l. puts l ∙ at l (eq k l) refl
-      ∙ ap (option_map (λ y. y)) (sym (found_changed key eq alike itself (λ y. eq (key y) k) g stays l xs))
-    where
-      by_test : A → A
-      by_test y = cond (eq (key y) k) (g y) y
-
-      other : (l : K) → eq k l ≡ false → (o : Option A) → find (λ y. eq (key y) l) xs ≡ o
-          → option_map (λ y. y) o ≡ option_map (λ y. y) (option_map by_test o)
-      other l e None h = refl
-      other l e (Some y) h =
-          let is : key y ≡ l = alike (key y) l (found_passes (λ y. eq (key y) l) xs y h) in
-          let no : eq (key y) k ≡ false = subst (λ j. eq j k ≡ false) (sym is) (turned key eq alike itself k l e) in
-          ap (λ b. Some (cond b (g y) y)) (sym no)
-
-      at : (l : K) (b : Bool) → eq k l ≡ b
-          → cond b (Some (g x)) (m l) ≡ option_map (λ y. y) (option_map by_test (find (λ y. eq (key y) l) xs))
-      at l true e =
-          let here : find (λ y. eq (key y) l) xs ≡ Some x =
-          subst (λ j. find (λ y. eq (key y) j) xs ≡ Some x) (alike k l e) has in
-          let yes : eq (key x) k ≡ true = found_passes (λ y. eq (key y) k) xs x has in
-          ap (λ b. Some (cond b (g x) x)) (sym yes) ∙ ap (λ o. option_map (λ y. y) (option_map by_test o)) (sym here)
-      at l false e = f l ∙ other l e (find (λ y. eq (key y) l) xs) refl
-
--- Whether the one element of key l has key k is whether k and l are one key.
-pub only_key : {A K : Type 0} (key : A → K) (eq : K → K → Bool) (alike : (a b : K) → eq a b ≡ true → a ≡ b)
-    (itself : (a : K) → eq a a ≡ true) (xs : List A) (k l : K) (y : A)
-    → find (λ x. eq (key x) l) xs ≡ Some y → not (eq (key y) k) ≡ not (eq k l)
-only_key key eq alike itself xs k l y e =
-    let is : key y ≡ l = alike (key y) l (found_passes (λ x. eq (key x) l) xs y e) in
-    ap (λ j. not (eq j k)) is ∙ ap not (turn key eq alike itself l k)

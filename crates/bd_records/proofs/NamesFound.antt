@@ -11,9 +11,9 @@ use Rattle.bd_space.specs.declared.step.Identity.{Identity}
 use Rattle.bd_space.specs.declared.space.Name.{Name}
 use Rattle.bd_space.specs.Words.{same}
 use Rattle.bd_space.specs.Names.{named_in, number_in}
-use Rattle.bd_space.proofs.Identities.{same_eq, same_self, same_turned}
+use Rattle.bd_space.proofs.Identities.{same_eq, same_turned}
 use Rattle.bd_records.specs.Sound.{Sound, has_number, has_object}
-use Rattle.bd_records.proofs.Singles.{find_filter, few_push, few_filter, only, none_count, none_dropped, same_dropped}
+use Rattle.bd_records.proofs.Singles.{find_filter, few_push, few_filter, only, none_count, none_dropped}
 use Rattle.bd_records.proofs.Turned.{turned}
 
 find_push : {A : Type 0} (key : A → Bool) (xs : List A) (x : A) → find key (xs ++ x ∷ []) ≡ option_or (find key xs) (cond (key x) (Some x) None)
@@ -132,29 +132,3 @@ module _ (names : List Name) (h : Sound names) (p : ℕ) (o : Identity) where
 
     pub gone_number : (q : ℕ) (x : Identity) → number_in (filter keep names) q x ≡ cond (eqb p q && same o x) None (number_in names q x)
     gone_number q x = gone_found (λ (m : Name). m.number) (has_object q x) keep (eqb p q && same o x) names (h.one_name q x) (λ m e. ap not (of_both q x m (found_passes (has_object q x) names m e)))
-
--- ---- the name with a number of p
-
-module _ (names : List Name) (h : Sound names) (p n : ℕ) where
-  -- Where p has no name with this number, taking it out changes nothing.
-  pub no_number : named_in names p n ≡ None → filter (λ m. not (has_number p n m)) names ≡ names
-  no_number e = none_goes (λ (k : Name). k.object) (has_number p n) names e
-
-  module _ (o : Identity) (has : named_in names p n ≡ Some o) where
-    numbered : (m : Name) × (find (has_number p n) names ≡ Some m) × (m.object ≡ o)
-    numbered = some_map (λ (k : Name). k.object) (find (has_number p n) names) o has
-
-    tests : (eqb numbered.0.process p ≡ true) × (eqb numbered.0.number n ≡ true)
-    tests = and_parts (eqb numbered.0.process p) (eqb numbered.0.number n) (found_passes (has_number p n) names numbered.0 numbered.1)
-
-    by_object : find (has_object p o) names ≡ Some numbered.0
-    by_object =
-        only (has_object p o) (has_number p n) names numbered.0 (h.one_name p o) numbered.1
-        (and_from (eqb numbered.0.process p) (same numbered.0.object o) tests.0 (rw numbered.2 (same_self o)))
-
-    pub number_of_it : number_in names p o ≡ Some n
-    number_of_it = ap (λ x. option_map (λ (k : Name). k.number) x) by_object ∙ ap Some (eqb-true numbered.0.number n tests.1)
-
-    -- Taking out p's name for the object o takes out the one with number n, and nothing else.
-    pub same_gone : filter (λ m. not (has_object p o m)) names ≡ filter (λ m. not (has_number p n m)) names
-    same_gone = same_dropped (has_object p o) (has_number p n) names numbered.0 (h.one_name p o) (h.one_number p n) by_object numbered.1
