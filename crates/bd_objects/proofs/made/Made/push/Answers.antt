@@ -1,23 +1,43 @@
-use Rattle.std.proofs.Common.{arith, ap, ◌∙◌}
-use Rattle.bd_space.specs.References.{own_in}
-use Rattle.bd_objects.proofs.Later.{finds_few, finds_more, none_more}
+use Rattle.std.proofs.Common.{◌≡◌, ◌≤◌, ◌||◌, ◌∷◌, [], nat_lt, true, false, length, vec_len, arith, ap, sym, ◌∙◌, length-append}
+use Rattle.bd_objects.specs.Later.{few}
+use Rattle.bd_objects.proofs.Later.{finds_all, finds_more, low_push, all_first, all_rise, still_rise}
 use Rattle.bd_objects.proofs.made.Made.push.Goals as goal
-use Rattle.bd_objects.proofs.made.Made.push.Goals.{then-len-ge-FEW, else-len-ge-FEW}
+use Rattle.bd_objects.proofs.made.Made.push.Goals.{then-first, else-first}
 
 pub invariant_of-self : goal.invariant_of-self
 invariant_of-self c =
     let old = c.args.self.now in
     let xs = old.objects.items in
     let x = c.args.x in
+    let n = vec_len old.objects in
+    let len : n ≡ length xs = omega (arith, old.objects.ok.0) in
+    let more = length-append xs (x ∷ []) in
     record {
-      found = elim c.if-len-ge-FEW.branch [
-        | then-len-ge-FEW w ↦ rw (w.self-is, c.push_reserved.ensures.items)
-            (finds_more xs x old.later w.note.new.later old.found
-            (omega (arith, w.if-len-ge-FEW.true, c.len.ensures, old.objects.ok.0)) w.note.ensures.found)
-        | else-len-ge-FEW w ↦ rw (w.self-is, c.push_reserved.ensures.items)
-            (finds_few xs x old.later old.found
-            (omega (arith, w.if-len-ge-FEW.false, c.len.ensures, old.objects.ok.0)))
+      found = elim c.if-first.branch [
+        | then-first w ↦ rw (c.push_reserved.ensures.items, w.self-is)
+            (finds_all old.first _ xs x old.later
+            (all_first old.rising (nat_lt old.highest x.ptr) old.first n (λ le. old.few (omega (arith, le, len)) ∙ sym len)
+            (ap (λ b. b || nat_lt n few) (sym c.rises_to-rises.ensures) ∙ sym c.is_next_first-first.ensures ∙ w.if-first.true) ∙ len)
+            (omega (arith, w.len.ensures, len)) old.found)
+        | else-first w ↦ rw (c.push_reserved.ensures.items, w.self-is)
+            (finds_more old.first xs x old.later w.note.new.later old.found old.within w.note.ensures.found)
       ];
-      not_higher = λ p ptr lt. ap (λ ys. own_in ys p ptr) c.push_reserved.ensures.items
-          ∙ none_more old.highest c.max-self.result xs x (omega (arith, c.max-self.ensures)) (omega (arith, c.max-self.ensures)) old.not_higher p ptr lt;
+      within = elim c.if-first.branch [
+        | then-first w ↦ rw (c.push_reserved.ensures.items, w.self-is) (omega (arith, w.len.ensures, len, more))
+        | else-first w ↦ rw (c.push_reserved.ensures.items, w.self-is) (omega (arith, old.within, more))
+      ];
+      few = elim c.if-first.branch [
+        | then-first w ↦ rw (c.push_reserved.ensures.items, w.self-is) (λ le. omega (arith, w.len.ensures, len, more))
+        | else-first w ↦ rw (c.push_reserved.ensures.items, w.self-is)
+            (λ le. absurd (let many : few ≤ n = grind (arith, c.is_next_first-first.ensures, w.if-first.false) in omega (arith, many, le, len, more)))
+      ];
+      rises = elim c.if-first.branch [
+        | then-first w ↦ rw (c.push_reserved.ensures.items, w.self-is)
+            (λ h. all_rise old.rising old.first n _ old.highest xs x len (omega (arith, w.len.ensures)) old.not_higher old.rises (sym c.rises_to-rises.ensures ∙ h))
+        | else-first w ↦ rw (c.push_reserved.ensures.items, w.self-is) (still_rise old.rising old.first xs x old.within old.rises)
+      ];
+      not_higher = elim c.if-first.branch [
+        | then-first w ↦ rw (c.push_reserved.ensures.items, w.self-is) (low_push old.highest c.max-self.result xs x (omega (arith, c.max-self.ensures)) (omega (arith, c.max-self.ensures)) old.not_higher)
+        | else-first w ↦ rw (c.push_reserved.ensures.items, w.self-is) (low_push old.highest c.max-self.result xs x (omega (arith, c.max-self.ensures)) (omega (arith, c.max-self.ensures)) old.not_higher)
+      ];
     }
