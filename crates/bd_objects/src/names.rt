@@ -31,14 +31,7 @@ impl ObjectTable {
         next_number(&self.records.names, p, from)
     }
 
-    /// Whether the process is to have a name for the object: it is another's, and a reference carries the name.
-    pub(crate) fn is_named(&self, p: u64, o: Identity) -> bool
-        ensures { Tells (StandsFor self.now) result (λ s. names_of.is_named_in s.objects s.references p o) }
-    {
-        !self.records.owns(p, o) && self.records.refers(p, o)
-    }
-
-    /// The same, where a strong reference carries it.
+    // Whether the object is another's, and a strong reference carries the process's name of it.
     fn is_strongly_named(&self, p: u64, o: Identity) -> bool
         ensures { Tells (StandsFor self.now) result
             (λ s. not (refer.owned_in s.objects p o)

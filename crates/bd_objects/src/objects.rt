@@ -65,14 +65,17 @@ impl ObjectTable {
     {
         self.sure_room = self.sure_room.saturating_sub(1);
         let id = managed(place);
-        let _object = self.records.add_object(Object {
-            id,
-            owner: p,
-            ptr: 0,
-            cookie: 0,
-            told_weak: true,
-            told_strong: true,
-        });
+        let _object = self.records.add_object(
+            Object {
+                id,
+                owner: p,
+                ptr: 0,
+                cookie: 0,
+                told_weak: true,
+                told_strong: true,
+            },
+            false,
+        );
         self.records.push(Reference {
             id: Origin { place, index: 0 },
             object: id,

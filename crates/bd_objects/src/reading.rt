@@ -91,7 +91,7 @@ fn acknowledgements(records: &Records, o: Identity) -> (bool, bool)
         → (result.0 || result.1) ≡ true → IsHere o objects }
 {
     match records.kept(o) {
-        Some(Kept { object, hold }) => (
+        Some(Kept { object, hold, .. }) => (
             hold.is_held && !object.told_weak,
             hold.is_strong && !object.told_strong,
         ),

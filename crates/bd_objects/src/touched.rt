@@ -23,9 +23,7 @@ impl ObjectTable {
         ensures stands { Makes (StandsFor self.old) (StandsFor self.new) (local.names_go_of (local.at_name p o)) }
         ensures uses { UsesNothing self.old self.new }
     {
-        if !self.is_named(p, o) {
-            self.records.remove_name(p, o);
-        }
+        self.records.remove_unused_name(p, o);
     }
 
     /// The object goes, if nothing keeps it. Returns the live owner that is then to be told of it. Takes the live processes.
@@ -40,7 +38,7 @@ impl ObjectTable {
         let kept = self.records.kept(o)?;
         let lives = processes.lives(kept.object.owner);
         if !stays(kept.hold, lives, &kept.object) {
-            self.records.remove_object(o);
+            self.records.remove_object(o, kept.slot);
             return None;
         }
         owner_to_tell(kept.hold, lives, &kept.object)

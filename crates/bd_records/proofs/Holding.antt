@@ -3,12 +3,12 @@ use Rattle.std.proofs.Common.{◌≡◌, ℕ, ◌-◌, ◌==◌, nat_lt, Bool, t
 use Rattle.std.proofs.lemmas.Bool.{eqb-true}
 use Rattle.std.specs.{Prelude.{option_map}, List.{list_any}}
 use Rattle.bd_ways.specs.Words.{beq, Identity, Object, Reference, Holder, Asked, Carried, Target, Handshake, Manager, same, without_first}
-use Rattle.bd_space.specs.References.{is_asking, is_shaking, is_asked_by, is_handshake, gives_name_to, held_in, strong_in}
+use Rattle.bd_space.specs.References.{owned_in, is_asking, is_shaking, is_asked_by, is_handshake, gives_name_to, held_in, strong_in}
 use Rattle.bd_space.proofs.Identities.{same_eq}
-use Rattle.bd_records.specs.declared.{count.Count.{Count}, row.ObjectRow.{ObjectRow}}
+use Rattle.bd_records.specs.declared.{count.Count.{Count}, row.ObjectRow.{ObjectRow}, row.NameRow.{NameRow}}
 use Rattle.bd_records.specs.Count.{of_strength, is_empty}
-use Rattle.bd_records.specs.Counting.{turned, is_to, is_carrying, is_carried_to}
-use Rattle.bd_records.specs.Buffers.{is_held}
+use Rattle.bd_records.specs.Counting.{turned, asked_of, carried_of, is_to, is_carrying, is_carried_to}
+use Rattle.bd_records.specs.{Buffers.{is_held}, Counted.{CountsAre}}
 use Rattle.bd_records.specs.Records.{is_owner}
 use Rattle.bd_records.proofs.Tallies.{Test, on, count_first}
 use Rattle.bd_records.proofs.Lists.{any_counts, found_is, found_passes}
@@ -151,3 +151,25 @@ pub asked_counts : (p : ℕ) (o : Identity) (l : List Reference) → list_any (�
 asked_counts p o l =
     any_either (λ r. same r.object o && is_asked_by p r.holder) (is_asking p o false) (is_asking p o true) (λ x. grind (arith, either x.strong (same x.object o && is_asked_by p x.holder))) l
     ∙ (λ i. any_counts (is_asking p o false) l i || any_counts (is_asking p o true) l i)
+
+one_of : (a b : Bool) → not (a && b) ≡ (not a || not b)
+one_of true b = refl
+one_of false b = refl
+
+-- a name's record tells whether a reference gives the name of another's object
+pub given_counts : (O : Identity → Option ObjectRow) (N : ℕ → Identity → Option NameRow) (objects : List Object) (l : List Reference) → CountsAre O N objects l
+    → (p : ℕ) (o : Identity) (w : NameRow) → N p o ≡ Some w → owned_in objects p o ≡ false
+    → not (is_empty w.asked && is_empty w.carried) ≡ list_any (λ r. same r.object o && gives_name_to p r.holder) l
+given_counts O N objects l h p o w is free =
+    let a = ap (λ v. of_strength false (asked_of v)) (sym is) ∙ h.asked p o false in
+    let b = ap (λ v. of_strength true (asked_of v)) (sym is) ∙ h.asked p o true in
+    let d = ap (λ v. of_strength false (carried_of v)) (sym is) ∙ h.carried p o false free in
+    let e = ap (λ v. of_strength true (carried_of v)) (sym is) ∙ h.carried p o true free in
+    one_of (is_empty w.asked) (is_empty w.carried) ∙ (λ i. not_empty w.asked _ _ a b i || not_empty w.carried _ _ d e i) ∙ sym (refers_counts p o l)
+
+-- whose the object is may be asked last
+pub given_last : (owned refers named : Bool) → (owned ≡ false → refers ≡ named) → (refers && not owned) ≡ (not owned && named)
+given_last true true named h = refl
+given_last true false named h = refl
+given_last false true named h = h refl
+given_last false false named h = h refl

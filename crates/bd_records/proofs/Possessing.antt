@@ -1,5 +1,5 @@
 -- The objects of each process, as they come and go.
-use Rattle.std.proofs.Common.{◌≡◌, ℕ, ◌==◌, Bool, true, false, not, cond, List, [], ◌∷◌, ◌++◌, filter, map, find, Option, Some, None, is_some, refl, sym, ap, ◌∙◌, subst, arith, eqb-true}
+use Rattle.std.proofs.Common.{◌≡◌, ℕ, ◌==◌, ◌≤◌, ◌<◌, Bool, true, false, not, cond, List, [], ◌∷◌, ◌++◌, filter, map, find, Option, Some, None, is_some, refl, sym, ap, ◌∙◌, subst, arith, eqb-true}
 use Rattle.std.specs.Prelude.{option_map}
 use Rattle.std.proofs.lemmas.Bool.{eq-eqb}
 use Rattle.bd_ways.specs.Words.{Identity, Object, same}
@@ -212,3 +212,33 @@ spots_less t objects n x has s e is L gone k v f = at (same_word (own_key x) k) 
     at false g =
         let old : look t.ptrs k ≡ Some v = sym (gone k ∙ ap (λ b. cond b None (look t.ptrs k)) g) ∙ f in
         stands_less v.at s.at n.rows ∙ ap (λ b. cond b None (stands_at v.at n.rows)) (spots_apart t objects n x has s e is k v old g) ∙ n.spots k v old
+
+-- what no object has leads nowhere
+pub none_at : (t : Owned) (objects : List Object) → OwnedAre t objects → (k : WordKey) → find (λ y. same_word (own_key y) k) objects ≡ None → look t.ptrs k ≡ None
+none_at t objects n k none = at (look t.ptrs k) refl
+  where
+    at : (o : Option Spot) → look t.ptrs k ≡ o → o ≡ None
+    at None e = refl
+    at (Some s) e = absurd (let f : Some s.id ≡ None = sym (ap (option_map (λ (v : Spot). v.id)) e) ∙ n.found k ∙ ap (option_map (λ (y : Object). y.id)) none in cc)
+
+-- ---- the highest pointer
+
+-- what one key less or more leads to is no higher
+pub higher_more : (t : Owned) (objects : List Object) (n : OwnedAre t objects) (x : Object) (v : Option Spot)
+    (L : WordKey → Option Spot) → ((l : WordKey) → L l ≡ cond (same_word (own_key x) l) v (look t.ptrs l))
+    → (m : ℕ) → x.ptr ≤ m → t.highest ≤ m → (k : WordKey) (s : Spot) → L k ≡ Some s → k.word ≤ m
+higher_more t objects n x v L put m this up k s e = at (same_word (own_key x) k) refl
+  where
+    at : (b : Bool) → same_word (own_key x) k ≡ b → k.word ≤ m
+    at true f = subst (λ (q : WordKey). q.word ≤ m) (word_eq (own_key x) k f) this
+    at false f =
+        let old : look t.ptrs k ≡ Some s = sym (put k ∙ ap (λ b. cond b v (look t.ptrs k)) f) ∙ e in
+        let low = n.not_higher k s old in
+        omega (arith, low, up)
+
+pub none_higher : (t : Owned) (objects : List Object) → OwnedAre t objects → (k : WordKey) → t.highest < k.word → look t.ptrs k ≡ None
+none_higher t objects n k above = at (look t.ptrs k) refl
+  where
+    at : (o : Option Spot) → look t.ptrs k ≡ o → o ≡ None
+    at None e = refl
+    at (Some s) e = absurd (let low = n.not_higher k s e in omega (arith, low, above))

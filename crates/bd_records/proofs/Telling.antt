@@ -68,6 +68,7 @@ module _ (weak strong : Bool) (o : Identity) where
     shows = h.shows;
     are = h.are ∙ sym (possessions_told objects);
     spots = h.spots;
+    not_higher = h.not_higher;
   }
 
   module _ (O O' : Identity → Option ObjectRow) (N : ℕ → Identity → Option NameRow) (objects : List Object) (l : List Reference) (h : CountsAre O N objects l)

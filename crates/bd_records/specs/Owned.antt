@@ -1,5 +1,5 @@
 -- Objects by their owners: by pointers, of which no two are alike, and one after the other.
-use Rattle.std.specs.Prelude.{ℕ, ◌≡◌, ◌==◌, Bool, false, min, List, map, Option, Some, option_map}
+use Rattle.std.specs.Prelude.{ℕ, ◌≡◌, ◌≤◌, ◌==◌, Bool, false, min, List, map, Option, Some, option_map}
 use Rattle.std.specs.HashMap.{get, spare}
 use Rattle.bd_ways.specs.Words.{Identity, Object, same}
 use Rattle.bd_keys.specs.declared.key.WordKey.{WordKey}
@@ -43,6 +43,7 @@ pub record OwnedAre (t : Owned) (objects : List Object) : Type 0 where
   pub are : values rows ≡ map possession objects
   -- each spot is that of its object
   pub spots : (k : WordKey) (s : Spot) → look t.ptrs k ≡ Some s → stands_at s.at rows ≡ Some (record { owner = k.process; id = s.id })
+  pub not_higher : (k : WordKey) (s : Spot) → look t.ptrs k ≡ Some s → k.word ≤ t.highest
 
 -- how many objects more take no memory
 abbrev pub own_room : Owned → ℕ

@@ -2,7 +2,7 @@
 
 ghost use Rattle.std.specs.List.{list_any};
 ghost use Rattle.bd_numbered.specs.Numbered.{slot_at};
-ghost use Rattle.std.specs.Prelude.{ℕ, ◌≡◌, ◌==◌, ◌≤◌, None, true, false, not, filter, is_some, List, OnOk, OnErr};
+ghost use Rattle.std.specs.Prelude.{ℕ, ◌≡◌, ◌==◌, ◌≤◌, None, Some, true, false, not, filter, is_some, List, OnOk, OnErr};
 ghost use Rattle.bd_keys.specs.Tables as tables;
 ghost use Rattle.bd_space.specs.declared.space.{Object.{Object}, Reference.{Reference}};
 ghost use Rattle.bd_space.specs.declared.space.Name as declared;
@@ -14,6 +14,7 @@ ghost use Rattle.bd_records.specs.Sound.{has_object};
 use crate::listed::{give_name, remove_name};
 use crate::numbers::NumbersFull;
 use crate::records::Records;
+use crate::row::NameRow;
 use bd_space::{Identity, Name};
 use std::alloc::AllocError;
 
@@ -94,15 +95,31 @@ impl Records {
         self.names.remove_process(p);
     }
 
-    /// The process's name of the object goes, if it has one: the object is its own, or no reference carries the name.
-    pub fn remove_name(&mut self, p: u64, o: Identity)
-        ensures stands { (objects : List Object) (l : List Reference) → names_of.is_named_in objects l p o ≡ false
-            → RecordsAre self.old objects l → RecordsAre self.new objects l }
-        ensures names { tables.Makes (NamesAre self.old.names) (NamesAre self.new.names) (λ l. filter (λ m. not (has_object p o m)) l) }
-        ensures settled { (names : List declared.Name) → Settled self.old names → Settled self.new (filter (λ m. not (has_object p o m)) names) }
-        ensures uses { Uses self.old self.new 0 0 0 }
-        ensures room { reference_room self.new ≡ reference_room self.old }
+    // Whether the process is to have its name of the object, which has this record: a reference gives it, and the object is another's.
+    fn is_given(&self, p: u64, o: Identity, w: NameRow) -> bool
+        ensures { name_at self.now.names p o ≡ Some w → (objects : List Object) (l : List Reference) → RecordsAre self.now objects l
+            → result ≡ names_of.is_named_in objects l p o }
     {
-        remove_name(&mut self.names, p, o);
+        if w.is_blank() {
+            return false;
+        }
+        !self.owns(p, o)
+    }
+
+    /// The process's name of the object goes, if it has one and is to have none: the object is its own, or no reference gives it the
+    /// name. By one look.
+    pub fn remove_unused_name(&mut self, p: u64, o: Identity)
+        ensures stands { Makes self.old self.new (λ l. l) }
+        ensures stays { (objects : List Object) (l : List Reference) (names : List declared.Name) → RecordsAre self.old objects l
+            → names_of.is_named_in objects l p o ≡ true → Settled self.old names → Settled self.new names }
+        ensures goes { (objects : List Object) (l : List Reference) (names : List declared.Name) → RecordsAre self.old objects l
+            → names_of.is_named_in objects l p o ≡ false → Settled self.old names → Settled self.new (filter (λ m. not (has_object p o m)) names) }
+        ensures uses { Uses self.old self.new 0 0 0 }
+    {
+        if let Some(s) = self.names.spot_of(p, o) {
+            if !self.is_given(p, o, s.row) {
+                self.names.remove_at(p, o, s.number);
+            }
+        }
     }
 }

@@ -64,9 +64,9 @@ impl Records {
         self.owned.owned_by(p, touched)
     }
 
-    /// Takes in an object that is new: no other has its identity, and its owner has none with its pointer. Answers where its
-    /// record is.
-    pub fn add_object(&mut self, x: space::Object) -> usize
+    /// Takes in an object that is new: no other has its identity, and its owner has none with its pointer. Takes whether others
+    /// come with it. Answers where its record is.
+    pub fn add_object(&mut self, x: space::Object, among: bool) -> usize
         requires { 1 ≤ new_room self.old }
         ensures stands { (objects : List Object) (l : List Reference) → IsNewIn objects x
             → RecordsAre self.old objects l → RecordsAre self.new (objects ++ x ∷ []) l }
@@ -74,7 +74,7 @@ impl Records {
         ensures settled { KeepsSettled self.old self.new }
         ensures uses { Uses self.old self.new 1 0 0 }
     {
-        self.owned.push(&x);
+        self.owned.push(&x, among);
         self.objects.insert(ObjectRow {
             object: x,
             total: Count::none(),
@@ -92,7 +92,7 @@ impl Records {
         ensures uses { Uses self.old self.new (length made.now) 0 0 }
     {
         for x in made {
-            self.add_object(*x);
+            self.add_object(*x, made.len() > 1);
         }
     }
 
@@ -107,15 +107,15 @@ impl Records {
         self.objects.set_told(o, weak, strong);
     }
 
-    /// The object goes, to which nothing refers.
-    pub fn remove_object(&mut self, o: Identity)
+    /// The object goes, to which nothing refers. Takes the slot in which its record may be.
+    pub fn remove_object(&mut self, o: Identity, near: usize)
         ensures stands { (objects : List Object) (l : List Reference) → refer.held_in l o ≡ false
             → RecordsAre self.old objects l → RecordsAre self.new (filter (λ x. not (same x.id o)) objects) l }
         ensures names { self.new.names ≡ self.old.names }
         ensures settled { KeepsSettled self.old self.new }
         ensures uses { Uses self.old self.new 0 0 0 }
     {
-        if let Some(w) = self.objects.remove(o) {
+        if let Some(w) = self.objects.remove(o, near) {
             self.owned.remove(&w.object);
         }
     }

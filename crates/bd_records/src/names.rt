@@ -13,7 +13,7 @@ use crate::counting::name_turned;
 use crate::keys::{remove_numbers, reserve_numbers};
 use crate::number_key::{ObjectKey, insert_number, number_in, remove_number};
 use crate::numbers::NumbersFull;
-use crate::row::NameRow;
+use crate::row::{NameRow, NameSpot};
 use bd_keys::tall;
 use bd_numbered::{Guesses, Numbered};
 use bd_space::{Identity, Reference};
@@ -53,7 +53,7 @@ pub struct Names {
 }
 
 impl Names {
-    ghost use Rattle.bd_numbered.specs.Numbered.{IsFreeAt, slot_at};
+    ghost use Rattle.bd_numbered.specs.Numbered.{IsFreeAt, slot_at, value_at};
     ghost use Rattle.bd_chains.specs.Chain.{is_at};
     ghost use Rattle.bd_records.specs.Names.{number_of, named_by, name_at, name_room};
 
@@ -141,27 +141,47 @@ impl Names {
         self.rows.next(p, from)
     }
 
+    /// The number and the record of the process's name of the object.
+    #[inline(always)]
+    pub(crate) fn spot_of(&self, p: u64, o: Identity) -> Option<NameSpot>
+        ensures number { IfSome result (λ s. number_of self.now p o ≡ Some s.number) }
+        ensures row { IfSome result (λ s. value_at self.now.rows p s.number ≡ Some s.row) }
+        ensures none { IfNone result (number_of self.now p o ≡ None) }
+    {
+        if self.guesses.are_few() {
+            let number = self.guesses.of(key_of(p, o));
+            if let Some(row) = self.rows.look(p, number) {
+                if row.object == o {
+                    return Some(NameSpot { number, row: *row });
+                }
+            }
+        }
+        self.spot_among(p, o)
+    }
+
+    // The same, where it isn't guessed among a few.
+    #[inline(never)]
+    fn spot_among(&self, p: u64, o: Identity) -> Option<NameSpot>
+        ensures number { IfSome result (λ s. number_of self.now p o ≡ Some s.number) }
+        ensures row { IfSome result (λ s. value_at self.now.rows p s.number ≡ Some s.row) }
+        ensures none { IfNone result (number_of self.now p o ≡ None) }
+    {
+        let number = self.number_of(p, o)?;
+        match self.rows.get(p, number) {
+            Some(row) => Some(NameSpot { number, row }),
+            None => unreachable!(),
+        }
+    }
+
     /// The record of the process's name of the object.
     #[inline(always)]
     pub fn row_of(&self, p: u64, o: Identity) -> Option<NameRow>
         ensures is { result ≡ name_at self.now p o }
         ensures object { IfSome result (λ w. w.object ≡ o) }
     {
-        let n = self.number_of(p, o)?;
-        self.rows.get(p, n)
-    }
-
-    /// Puts this record in place of the one that the process's name of the same object has.
-    #[inline(always)]
-    pub fn set(&mut self, p: u64, row: NameRow)
-        ensures named { (q m : ℕ) → named_by self.new q m ≡ named_by self.old q m }
-        ensures numbers { (q : ℕ) (o : declared.Identity) → number_of self.new q o ≡ number_of self.old q o }
-        ensures set { (q : ℕ) (o : declared.Identity) → name_at self.new q o
-            ≡ (if (p == q) && same row.object o then option_map (λ _. row) (name_at self.old q o) else name_at self.old q o) }
-        ensures uses { (q : ℕ) → name_room self.old q ≤ name_room self.new q }
-    {
-        if let Some(k) = self.number_of(p, row.object) {
-            self.rows.set(p, k, row);
+        match self.spot_of(p, o) {
+            Some(s) => Some(s.row),
+            None => None,
         }
     }
 
@@ -174,12 +194,9 @@ impl Names {
         ensures numbers { (q : ℕ) (o : declared.Identity) → number_of self.new q o ≡ number_of self.old q o }
         ensures uses { (q : ℕ) → name_room self.old q ≤ name_room self.new q }
     {
-        if let Some(k) = self.number_of(p, r.object) {
-            note_again(&mut self.guesses, p, r.object, k);
-            match self.rows.get(p, k) {
-                Some(w) => self.rows.set(p, k, name_turned(more, w, r)),
-                None => unreachable!(),
-            }
+        if let Some(s) = self.spot_of(p, r.object) {
+            note_again(&mut self.guesses, p, r.object, s.number);
+            self.rows.set(p, s.number, name_turned(more, s.row, r));
         }
     }
 
@@ -191,18 +208,15 @@ impl Names {
         ensures numbers { (q : ℕ) (x : declared.Identity) → number_of self.new q x ≡ number_of self.old q x }
         ensures uses { (q : ℕ) → name_room self.old q ≤ name_room self.new q }
     {
-        if let Some(k) = self.number_of(p, o) {
-            match self.rows.get(p, k) {
-                Some(w) => self.rows.set(
-                    p,
-                    k,
-                    NameRow {
-                        asked: Count::none(),
-                        ..w
-                    },
-                ),
-                None => unreachable!(),
-            }
+        if let Some(s) = self.spot_of(p, o) {
+            self.rows.set(
+                p,
+                s.number,
+                NameRow {
+                    asked: Count::none(),
+                    ..s.row
+                },
+            );
         }
     }
 
@@ -238,6 +252,21 @@ impl Names {
         Ok(n)
     }
 
+    /// Takes out the process's name of the object, which has this number.
+    pub(crate) fn remove_at(&mut self, p: u64, o: Identity, n: u32)
+        requires { number_of self.old p o ≡ Some n }
+        ensures named { (q m : ℕ) → named_by self.new q m
+            ≡ (if (p == q) && (n == m) then None else named_by self.old q m) }
+        ensures numbers { (q : ℕ) (x : declared.Identity) → number_of self.new q x
+            ≡ (if (p == q) && same o x then None else number_of self.old q x) }
+        ensures names { (q : ℕ) (x : declared.Identity) → name_at self.new q x
+            ≡ (if (p == q) && same o x then None else name_at self.old q x) }
+        ensures uses { (q : ℕ) → name_room self.old q ≤ name_room self.new q }
+    {
+        let _row = self.rows.remove(p, n);
+        remove_number(&mut self.numbers, p, o);
+    }
+
     /// Takes out the process's name of the object, if there is one.
     pub fn remove(&mut self, p: u64, o: Identity)
         ensures named { (q m : ℕ) → named_by self.new q m
@@ -249,10 +278,10 @@ impl Names {
         ensures uses { (q : ℕ) → name_room self.old q ≤ name_room self.new q }
     {
         if let Some(k) = self.number_of(p, o) {
-            let _row = self.rows.remove(p, k);
-            remove_number(&mut self.numbers, p, o);
+            self.remove_at(p, o, k);
         }
     }
+
     /// All names of the process go, and its row with them.
     pub fn remove_process(&mut self, p: u64)
         ensures named { (q m : ℕ) → named_by self.new q m ≡ (if p == q then None else named_by self.old q m) }

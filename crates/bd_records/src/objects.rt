@@ -12,7 +12,7 @@ use crate::count::Count;
 use crate::row::ObjectRow;
 use crate::slots::{
     id_at, insert_row, insert_slot, remove_of_owner_in, remove_row, remove_slot, reserve_rows,
-    reserve_slots, row_in, set_row, slot_in, subtract_row, tell_row, turn_row,
+    reserve_slots, row_in, slot_in, subtract_row, tell_row, turn_row,
 };
 use bd_keys::tall;
 use bd_numbered::Guesses;
@@ -96,6 +96,17 @@ impl Objects {
         self.slot_among(o)
     }
 
+    /// The same, and sooner where it is this one.
+    #[inline(always)]
+    pub fn slot_near(&self, o: Identity, near: usize) -> Option<usize>
+        ensures { result ≡ slot_at self.now o }
+    {
+        if id_at(&self.rows, near) == Some(o) {
+            return Some(near);
+        }
+        self.slot_of(o)
+    }
+
     // The same, of many objects.
     #[inline(never)]
     fn slot_among(&self, o: Identity) -> Option<usize>
@@ -120,17 +131,6 @@ impl Objects {
     {
         let k = self.slot_of(o)?;
         row_in(&self.rows, k)
-    }
-
-    /// Writes the object's record, if it has one.
-    pub fn set(&mut self, row: ObjectRow)
-        ensures set { (x : declared.Identity) → row_at self.new x
-            ≡ (if same row.object.id x then option_map (λ _. row) (row_at self.old x) else row_at self.old x) }
-        ensures uses { object_room self.old ≤ object_room self.new }
-    {
-        if let Some(k) = self.slot_of(row.object.id) {
-            set_row(&mut self.rows, k, row);
-        }
     }
 
     /// Counts the reference, or no longer, in the record of its object.
@@ -197,14 +197,14 @@ impl Objects {
         k
     }
 
-    /// The object's record goes, if it has one.
-    pub fn remove(&mut self, o: Identity) -> Option<ObjectRow>
+    /// The object's record goes, if it has one. Takes the slot in which it may be.
+    pub fn remove(&mut self, o: Identity, near: usize) -> Option<ObjectRow>
         ensures gone { result ≡ row_at self.old o }
         ensures id { IfSome result (λ w. w.object.id ≡ o) }
         ensures at { (x : declared.Identity) → row_at self.new x ≡ (if same o x then None else row_at self.old x) }
         ensures uses { object_room self.old ≤ object_room self.new }
     {
-        match self.slot_of(o) {
+        match self.slot_near(o, near) {
             Some(k) => {
                 remove_slot(&mut self.slots, o);
                 remove_row(&mut self.rows, k)

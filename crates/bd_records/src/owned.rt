@@ -1,6 +1,7 @@
 //! Objects by their owners.
 
-ghost use Rattle.std.specs.Prelude.{◌≡◌, ◌==◌, ◌≤◌, ◌+◌, ◌++◌, ◌∷◌, [], not, filter, map, option_map, Some, List, OnOk, OnErr};
+ghost use Rattle.std.specs.Prelude.{◌≡◌, ◌==◌, ◌≤◌, ◌+◌, ◌++◌, ◌∷◌, [], not, filter, map, option_map, Some, None, List, if◌then◌else◌, OnOk, OnErr};
+ghost use Rattle.bd_keys.specs.{declared.key.WordKey.{WordKey}, Keys.{same_word}, Look.{look, word_room}};
 ghost use Rattle.bd_keys.specs.Tables.{Makes, Tells};
 ghost use Rattle.bd_space.specs.{Words.{same}, References.{object_in, own_in}};
 ghost use Rattle.bd_space.specs.declared.space.Object as declared;
@@ -30,12 +31,18 @@ pub(crate) struct Possession {
 pub struct Owned {
     pub(crate) ptrs: WordMap<Spot>,
     pub(crate) lists: Lists<Numbers<u64>, Possession>,
+    // No object that is there has a pointer above this one: where pointers rise, what is new needs no look.
+    pub(crate) highest: u64,
 }
 
 // Written out: one that is derived would be proved again in every crate that holds such records.
 impl Drop for Owned {
     fn drop(self) {
-        let Owned { ptrs: _, lists: _ } = self;
+        let Owned {
+            ptrs: _,
+            lists: _,
+            highest: _,
+        } = self;
     }
 }
 
@@ -64,6 +71,20 @@ fn own_key(x: &Object) -> WordKey
     }
 }
 
+// Puts the spot at a key that has none: in front of the others, where it mostly is the only one of its step, or among them.
+fn put_spot(ptrs: &mut WordMap<Spot>, k: WordKey, spot: Spot, among: bool)
+    requires { 1 ≤ word_room ptrs.old }
+    ensures put { look ptrs.old k ≡ None → (l : WordKey)
+        → look ptrs.new l ≡ (if same_word k l then Some spot else look ptrs.old l) }
+    ensures room { word_room ptrs.old ≤ word_room ptrs.new + 1 }
+{
+    if among {
+        ptrs.fill(k, spot);
+    } else {
+        ptrs.insert(k, spot);
+    }
+}
+
 impl Owned {
     ghost use Rattle.bd_records.specs.Owned.{OwnedAre, possession, own_room};
 
@@ -74,6 +95,7 @@ impl Owned {
         Owned {
             ptrs: WordMap::new(alloc),
             lists: Lists::new(alloc, Numbers::new(alloc)),
+            highest: 0,
         }
     }
 
@@ -88,8 +110,9 @@ impl Owned {
         self.lists.reserve(more)
     }
 
-    /// Takes in an object that is new: no other has its identity, and its owner has none with its pointer.
-    pub fn push(&mut self, x: &Object)
+    /// Takes in an object that is new: no other has its identity, and its owner has none with its pointer. Takes whether others
+    /// come with it.
+    pub fn push(&mut self, x: &Object, among: bool)
         requires { 1 ≤ own_room self.old }
         ensures stands { (objects : List declared.Object) → OwnedAre self.old objects → IsNewIn objects x.now
             → OwnedAre self.new (objects ++ x.now ∷ []) }
@@ -100,7 +123,8 @@ impl Owned {
             id: x.id,
         };
         let at = self.lists.push(x.owner, possession, false);
-        self.ptrs.insert(own_key(x), Spot { id: x.id, at });
+        put_spot(&mut self.ptrs, own_key(x), Spot { id: x.id, at }, among);
+        self.highest = self.highest.max(x.ptr);
     }
 
     /// The object goes.
@@ -119,6 +143,9 @@ impl Owned {
     pub fn with_ptr(&self, p: u64, ptr: u64) -> Option<Identity>
         ensures { Tells (OwnedAre self.now) result (λ objects. option_map (λ x. x.id) (own_in objects p ptr)) }
     {
+        if ptr > self.highest {
+            return None;
+        }
         let spot = self.ptrs.get(WordKey {
             process: p,
             word: ptr,

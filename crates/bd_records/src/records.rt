@@ -12,6 +12,7 @@ use crate::lying::Lying;
 use crate::names::Names;
 use crate::objects::Objects;
 use crate::owned::Owned;
+use crate::slots::row_in;
 use crate::turning::turn;
 use bd_chains::Items;
 use bd_space::{Holder, Identity, Name, Object, Origin, Reference};
@@ -38,11 +39,12 @@ pub struct Hold {
     pub is_strong: bool,
 }
 
-/// An object, and how it is referred to.
+/// An object, how it is referred to, and in which slot its record is.
 #[derive(Clone, Copy)]
 pub struct Kept {
     pub object: Object,
     pub hold: Hold,
+    pub slot: usize,
 }
 
 // The objects of these references come behind what is there.
@@ -121,13 +123,15 @@ impl Records {
         ensures held { IfSome result (λ x. Tells self.now x.hold.is_held (λ l. refer.held_in l x.object.id)) }
         ensures strong { IfSome result (λ x. Tells self.now x.hold.is_strong (λ l. refer.strong_in l x.object.id)) }
     {
-        match self.objects.row_of(o) {
+        let slot = self.objects.slot_of(o)?;
+        match row_in(&self.objects.rows, slot) {
             Some(w) => Some(Kept {
                 object: w.object,
                 hold: Hold {
                     is_held: !w.total.is_empty(),
                     is_strong: w.total.strong > 0,
                 },
+                slot,
             }),
             None => None,
         }
@@ -155,20 +159,8 @@ impl Records {
         }
     }
 
-    /// Whether a reference gives the process its name of the object: it asked, or a buffer in its window carries it. Of an
+    /// Whether a strong reference gives the process its name of the object: it asked, or a buffer in its window carries it. Of an
     /// object that isn't its own.
-    #[inline(always)]
-    pub fn refers(&self, p: u64, o: Identity) -> bool
-        ensures { TellsOfOthers self.now p o result
-            (λ l. list_any (λ r. same r.object o && refer.gives_name_to p r.holder) l) }
-    {
-        match self.names.row_of(p, o) {
-            Some(w) => !w.asked.is_empty() || !w.carried.is_empty(),
-            None => false,
-        }
-    }
-
-    /// The same, strongly.
     #[inline(always)]
     pub fn refers_strongly(&self, p: u64, o: Identity) -> bool
         ensures { TellsOfOthers self.now p o result

@@ -1,5 +1,8 @@
 //! The records of an object, and of a name.
 
+ghost use Rattle.std.specs.Prelude.{◌≡◌, ◌&&◌};
+ghost use Rattle.bd_records.specs.Count as count;
+
 use crate::count::Count;
 use bd_space::{Identity, Object};
 
@@ -20,4 +23,21 @@ pub struct NameRow {
     pub object: Identity,
     pub asked: Count,
     pub carried: Count,
+}
+
+impl NameRow {
+    /// Whether no reference gives the name.
+    #[inline(always)]
+    pub(crate) fn is_blank(self) -> bool
+        ensures { result ≡ (count.is_empty self.asked && count.is_empty self.carried) }
+    {
+        self.asked.is_empty() && self.carried.is_empty()
+    }
+}
+
+/// A name's number and its record.
+#[derive(Clone, Copy)]
+pub(crate) struct NameSpot {
+    pub(crate) number: u32,
+    pub(crate) row: NameRow,
 }

@@ -35,17 +35,6 @@ pub(crate) fn id_at(rows: &Slab<ObjectRow>, k: usize) -> Option<Identity>
     }
 }
 
-/// Writes a record where one stands.
-#[inline(always)]
-pub(crate) fn set_row(rows: &mut Slab<ObjectRow>, k: usize, row: ObjectRow)
-    ensures set { (j : ℕ) → get rows.new j ≡ (if k == j then option_map (λ _. row) (get rows.old j) else get rows.old j) }
-    ensures room { row_room rows.new ≡ row_room rows.old }
-{
-    if let Some(r) = rows.get_mut(k) {
-        *r = row;
-    }
-}
-
 /// The record counts one more reference, or one fewer.
 #[inline(always)]
 pub(crate) fn turn_row(rows: &mut Slab<ObjectRow>, k: usize, r: Reference, more: bool)

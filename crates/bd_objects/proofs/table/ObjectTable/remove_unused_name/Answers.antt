@@ -1,27 +1,32 @@
-use Rattle.std.proofs.Common.{subst, sym, ◌∙◌}
-use Rattle.bd_space.specs.declared.space.Name.{Name}
+use Rattle.std.proofs.Common.{◌≡◌, ℕ, Bool, true, false, not, ◌||◌, filter, refl, subst}
+use Rattle.bd_space.specs.{Space.{Space}, declared.space.Name.{Name}, declared.step.Identity.{Identity}}
 use Rattle.bd_space.specs.Names.{is_named_in}
 use Rattle.bd_ways.specs.Local.{names_go_of, at_name}
-use Rattle.bd_records.specs.Since.{Settled}
+use Rattle.bd_records.specs.{declared.records.Records.{Records}, Since.{Settled}}
 use Rattle.bd_objects.proofs.AtName.{named_at, all_stay, all_go}
 use Rattle.bd_objects.proofs.table.ObjectTable.remove_unused_name.Goals as goal
 
-pub returns-then-not-is_named-clause-stands : goal.returns-then-not-is_named-clause-stands
-unfolding names_go_of
-returns-then-not-is_named-clause-stands c = λ s h. record {
-  records_are = c.remove_name.ensures.stands s.objects s.references (sym (c.is_named.ensures s h) ∙ c.if-not-is_named.true) h.records_are;
-  names_are = subst (Settled c.remove_name.new.self)
-      (all_go (λ (m : Name). at_name c.args.p c.args.o m.process m.object) (λ m. is_named_in s.objects s.references m.process m.object) _ s.names c.if-not-is_named.true
-      (named_at s.objects s.references c.args.p c.args.o _ (c.is_named.ensures s h))) (c.remove_name.ensures.settled s.names h.names_are);
-  deaths_are = h.deaths_are;
-}
+-- the name stays or goes, and the others stay
+left : (t : Records) (s : Space) (p : ℕ) (o : Identity) → (is_named_in s.objects s.references p o ≡ true → Settled t s.names)
+    → (is_named_in s.objects s.references p o ≡ false → Settled t (filter (λ (m : Name). not (at_name p o m.process m.object)) s.names))
+    → Settled t (filter (λ (m : Name). not (at_name p o m.process m.object) || is_named_in s.objects s.references m.process m.object) s.names)
+left t s p o stays goes = by (is_named_in s.objects s.references p o) refl
+  where
+    mine : Name → Bool
+    mine m = at_name p o m.process m.object
 
-pub returns-else-not-is_named-clause-stands : goal.returns-else-not-is_named-clause-stands
+    named : Name → Bool
+    named m = is_named_in s.objects s.references m.process m.object
+
+    by : (b : Bool) → is_named_in s.objects s.references p o ≡ b → Settled t (filter (λ (m : Name). not (mine m) || named m) s.names)
+    by true e = subst (Settled t) (all_stay mine named _ s.names e (named_at s.objects s.references p o _ refl)) (stays e)
+    by false e = subst (Settled t) (all_go mine named _ s.names e (named_at s.objects s.references p o _ refl)) (goes e)
+
+pub returns-clause-stands : goal.returns-clause-stands
 unfolding names_go_of
-returns-else-not-is_named-clause-stands c = λ s h. record {
-  records_are = h.records_are;
-  names_are = subst (Settled c.args.self.now.records)
-      (all_stay (λ (m : Name). at_name c.args.p c.args.o m.process m.object) (λ m. is_named_in s.objects s.references m.process m.object) _ s.names c.if-not-is_named.false
-      (named_at s.objects s.references c.args.p c.args.o _ (c.is_named.ensures s h))) h.names_are;
+returns-clause-stands c = λ s h. record {
+  records_are = c.remove_unused_name.ensures.stands s.objects s.references h.records_are;
+  names_are = left c.remove_unused_name.new.self s c.args.p c.args.o (λ e. c.remove_unused_name.ensures.stays s.objects s.references s.names h.records_are e h.names_are)
+      (λ e. c.remove_unused_name.ensures.goes s.objects s.references s.names h.records_are e h.names_are);
   deaths_are = h.deaths_are;
 }

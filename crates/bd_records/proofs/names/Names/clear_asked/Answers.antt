@@ -1,11 +1,11 @@
-use Rattle.std.proofs.Common.{◌≡◌, ◌==◌, true, false, cond, ◌&&◌, Some, None, is_some, sym, ap, ◌∙◌, arith}
+use Rattle.std.proofs.Common.{◌≡◌, ◌==◌, cond, ◌&&◌, None, is_some, ap, arith}
 use Rattle.std.specs.Prelude.{option_map}
 use Rattle.bd_ways.specs.Words.{Identity, same}
 use Rattle.bd_records.specs.{declared.row.NameRow.{NameRow}, Counting.{unasked}}
 use Rattle.bd_numbered.specs.Numbered.{value_at}
 use Rattle.bd_records.specs.NumberKeys.{number_at}
 use Rattle.bd_records.specs.{NameRows.{object_of}, Slots.{on_slot}}
-use Rattle.bd_records.proofs.Naming.{by_process, own_process, changed_at, shown_some, same_slots}
+use Rattle.bd_records.proofs.Naming.{by_process, own_process, changed_at, same_slots}
 use Rattle.bd_records.proofs.Keyed.{set_found, set_leads, set_at, AreFound, Lead}
 use Rattle.bd_records.proofs.names.Names.clear_asked.Goals as goal
 
@@ -13,52 +13,39 @@ kept_object : (o : Identity) (w : NameRow) → w.object ≡ o → (unasked w).ob
 kept_object o w e = e
 
 pub set-requires : goal.set-requires
-set-requires c = ap is_some (sym c.get.ensures ∙ c.in-Some-get.is)
+set-requires c = ap is_some c.in-Some.ensures.row
 
 pub invariant_of-self-clause-found : goal.invariant_of-self-clause-found
 invariant_of-self-clause-found c =
     let t = c.args.self.now in
     let p = c.args.p in
-    let k = c.in-Some.k in
-    let at = sym c.number_of.ensures ∙ c.in-Some.is in
-    let here : value_at t.rows p k ≡ Some c.in-Some-get.w = sym c.get.ensures ∙ c.in-Some-get.is in
+    let k = c.in-Some.s.number in
     by_process (λ q. AreFound (λ j. option_map object_of (value_at c.set.new.self q j)) (number_at t.numbers q)) p
-    (set_found object_of (value_at t.rows p) (value_at c.set.new.self p) (number_at t.numbers p) (number_at t.numbers p) c.args.o k (t.found p) (t.leads p) at unasked (kept_object c.args.o)
-    (changed_at (value_at t.rows p) (value_at c.set.new.self p) k unasked c.in-Some-get.w here (λ j. grind (arith, c.set.ensures.set p j, own_process p, c.none.ensures))))
+    (set_found object_of (value_at t.rows p) (value_at c.set.new.self p) (number_at t.numbers p) (number_at t.numbers p) c.args.o k (t.found p) (t.leads p) c.in-Some.ensures.number unasked (kept_object c.args.o)
+    (changed_at (value_at t.rows p) (value_at c.set.new.self p) k unasked c.in-Some.s.row c.in-Some.ensures.row (λ j. grind (arith, c.set.ensures.set p j, own_process p, c.none.ensures))))
     (λ q off x j e. t.found q x j (grind (arith, e, c.set.ensures.set q j, off)))
 
 pub invariant_of-self-clause-leads : goal.invariant_of-self-clause-leads
 invariant_of-self-clause-leads c =
     let t = c.args.self.now in
     let p = c.args.p in
-    let k = c.in-Some.k in
-    let at = sym c.number_of.ensures ∙ c.in-Some.is in
-    let here : value_at t.rows p k ≡ Some c.in-Some-get.w = sym c.get.ensures ∙ c.in-Some-get.is in
+    let k = c.in-Some.s.number in
     by_process (λ q. Lead (λ j. option_map object_of (value_at c.set.new.self q j)) (number_at t.numbers q)) p
-    (set_leads object_of (value_at t.rows p) (value_at c.set.new.self p) (number_at t.numbers p) (number_at t.numbers p) c.args.o k (t.found p) (t.leads p) at unasked (kept_object c.args.o)
-    (changed_at (value_at t.rows p) (value_at c.set.new.self p) k unasked c.in-Some-get.w here (λ j. grind (arith, c.set.ensures.set p j, own_process p, c.none.ensures))))
+    (set_leads object_of (value_at t.rows p) (value_at c.set.new.self p) (number_at t.numbers p) (number_at t.numbers p) c.args.o k (t.found p) (t.leads p) c.in-Some.ensures.number unasked (kept_object c.args.o)
+    (changed_at (value_at t.rows p) (value_at c.set.new.self p) k unasked c.in-Some.s.row c.in-Some.ensures.row (λ j. grind (arith, c.set.ensures.set p j, own_process p, c.none.ensures))))
     (λ q off x j e. grind (arith, t.leads q x j e, c.set.ensures.set q j, off))
 
-pub returns-in-Some-get-clause-cleared : goal.returns-in-Some-get-clause-cleared
-returns-in-Some-get-clause-cleared c =
+pub returns-in-Some-clause-cleared : goal.returns-in-Some-clause-cleared
+returns-in-Some-clause-cleared c =
     let t = c.args.self.now in
     let p = c.args.p in
-    let k = c.in-Some.k in
-    let at = sym c.number_of.ensures ∙ c.in-Some.is in
-    let here : value_at t.rows p k ≡ Some c.in-Some-get.w = sym c.get.ensures ∙ c.in-Some-get.is in
+    let k = c.in-Some.s.number in
     by_process (λ q. (x : Identity) → on_slot None (value_at c.set.new.self q) (number_at t.numbers q x)
     ≡ cond ((p == q) && same c.args.o x) (option_map unasked (on_slot None (value_at t.rows q) (number_at t.numbers q x))) (on_slot None (value_at t.rows q) (number_at t.numbers q x))) p
     (λ x. grind (
       arith,
       own_process p,
-      set_at object_of (value_at t.rows p) (value_at c.set.new.self p) (number_at t.numbers p) (number_at t.numbers p) c.args.o k (t.found p) (t.leads p) at unasked (kept_object c.args.o)
-          (changed_at (value_at t.rows p) (value_at c.set.new.self p) k unasked c.in-Some-get.w here (λ j. grind (arith, c.set.ensures.set p j, own_process p, c.none.ensures))) x,
+      set_at object_of (value_at t.rows p) (value_at c.set.new.self p) (number_at t.numbers p) (number_at t.numbers p) c.args.o k (t.found p) (t.leads p) c.in-Some.ensures.number unasked (kept_object c.args.o)
+          (changed_at (value_at t.rows p) (value_at c.set.new.self p) k unasked c.in-Some.s.row c.in-Some.ensures.row (λ j. grind (arith, c.set.ensures.set p j, own_process p, c.none.ensures))) x,
     ))
     (λ q off x. grind (arith, off, same_slots (value_at t.rows q) (value_at c.set.new.self q) (number_at t.numbers q x) (λ j. grind (arith, off, c.set.ensures.set q j))))
-
-pub unreachable-requires : goal.unreachable-requires
-unreachable-requires c =
-    let t = c.args.self.now in
-    let h : is_some (value_at t.rows c.args.p c.in-Some.k) ≡ true = shown_some object_of (value_at t.rows c.args.p c.in-Some.k) c.args.o (t.leads c.args.p c.args.o c.in-Some.k (sym c.number_of.ensures ∙ c.in-Some.is)) in
-    let e : is_some (value_at t.rows c.args.p c.in-Some.k) ≡ false = ap is_some (sym c.get.ensures ∙ c.in-None.is) in
-    cc

@@ -15,17 +15,17 @@ id r = r.object.id
 pub invariant_of-self-clause-found : goal.invariant_of-self-clause-found
 invariant_of-self-clause-found c =
     let t = c.args.self.now in
-    gone_found id (get t.rows) (get c.remove_row.new.rows) (slot_at t) (λ x. get_by (same x) c.remove_slot.new.slots) c.args.o c.in-Some.k t.found t.leads (sym c.slot_of.ensures ∙ c.in-Some.is) c.remove_row.ensures.at c.remove_slot.ensures.at
+    gone_found id (get t.rows) (get c.remove_row.new.rows) (slot_at t) (λ x. get_by (same x) c.remove_slot.new.slots) c.args.o c.in-Some.k t.found t.leads (sym c.slot_near.ensures ∙ c.in-Some.is) c.remove_row.ensures.at c.remove_slot.ensures.at
 
 pub invariant_of-self-clause-leads : goal.invariant_of-self-clause-leads
 invariant_of-self-clause-leads c =
     let t = c.args.self.now in
-    gone_leads id (get t.rows) (get c.remove_row.new.rows) (slot_at t) (λ x. get_by (same x) c.remove_slot.new.slots) c.args.o c.in-Some.k t.found t.leads (sym c.slot_of.ensures ∙ c.in-Some.is) c.remove_row.ensures.at c.remove_slot.ensures.at
+    gone_leads id (get t.rows) (get c.remove_row.new.rows) (slot_at t) (λ x. get_by (same x) c.remove_slot.new.slots) c.args.o c.in-Some.k t.found t.leads (sym c.slot_near.ensures ∙ c.in-Some.is) c.remove_row.ensures.at c.remove_slot.ensures.at
 
 pub returns-in-Some-clause-at : goal.returns-in-Some-clause-at
 returns-in-Some-clause-at c =
     let t = c.args.self.now in
-    gone_at id (get t.rows) (get c.remove_row.new.rows) (slot_at t) (λ x. get_by (same x) c.remove_slot.new.slots) c.args.o c.in-Some.k t.found t.leads (sym c.slot_of.ensures ∙ c.in-Some.is) c.remove_row.ensures.at c.remove_slot.ensures.at
+    gone_at id (get t.rows) (get c.remove_row.new.rows) (slot_at t) (λ x. get_by (same x) c.remove_slot.new.slots) c.args.o c.in-Some.k t.found t.leads (sym c.slot_near.ensures ∙ c.in-Some.is) c.remove_row.ensures.at c.remove_slot.ensures.at
 
 pub invariant_of-self-clause-not_later : goal.invariant_of-self-clause-not_later
 invariant_of-self-clause-not_later c =
@@ -36,4 +36,4 @@ pub returns-in-Some-clause-id : goal.returns-in-Some-clause-id
 returns-in-Some-clause-id c =
     let t = c.args.self.now in
     subst (λ v. IfSome v (λ w. w.object.id ≡ c.args.o)) (sym c.remove_row.ensures.gone)
-    (shown_is id (get t.rows c.in-Some.k) c.args.o (t.leads c.args.o c.in-Some.k (sym c.slot_of.ensures ∙ c.in-Some.is)))
+    (shown_is id (get t.rows c.in-Some.k) c.args.o (t.leads c.args.o c.in-Some.k (sym c.slot_near.ensures ∙ c.in-Some.is)))

@@ -13,4 +13,5 @@ returns c = record {
   shows = c.new-3.ensures c.new-2.ensures owner_of (λ _. false);
   are = refl;
   spots = λ k s e. absurd (let h : None ≡ Some s = sym (c.new.ensures k) ∙ e in cc);
+  not_higher = λ k s e. absurd (let h : None ≡ Some s = sym (c.new.ensures k) ∙ e in cc);
 }

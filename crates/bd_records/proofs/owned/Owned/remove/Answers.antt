@@ -1,4 +1,4 @@
-use Rattle.std.proofs.Common.{◌≡◌, cond, not, false, filter, Some, None, refl, sym, ap, ◌∙◌, subst}
+use Rattle.std.proofs.Common.{◌≡◌, cond, not, false, filter, Some, None, refl, sym, ap, ◌∙◌, subst, arith}
 use Rattle.std.specs.Prelude.{option_map}
 use Rattle.bd_keys.specs.declared.key.WordKey.{WordKey}
 use Rattle.bd_keys.specs.Keys.{same_word}
@@ -15,7 +15,7 @@ use Rattle.bd_records.proofs.Distinct.{filter_distinct}
 use Rattle.bd_records.proofs.Maps.{finds_remove}
 use Rattle.bd_records.specs.declared.{owned.Spot.{Spot}, owned.Possession.{Possession}}
 use Rattle.bd_records.specs.Owned.{owner_of, same_owner, list_of, id_at}
-use Rattle.bd_records.proofs.Possessing.{id_of, map_cond, values_less, possessions_less, possessions_apart, spot_is, spots_less}
+use Rattle.bd_records.proofs.Possessing.{id_of, map_cond, values_less, possessions_less, possessions_apart, spot_is, spots_less, higher_more}
 use Rattle.bd_records.proofs.owned.Owned.remove.Goals as goal
 
 pub returns-in-Some-clause-stands : goal.returns-in-Some-clause-stands
@@ -45,6 +45,7 @@ returns-in-Some-clause-stands c = λ objects n has.
           ∙ ap (filter (λ (v : Possession). not (same v.id x.id))) n.are
           ∙ possessions_less objects x.id;
       spots = spots_less t objects n x has s taken is (look c.remove.new.self) gone;
+      not_higher = higher_more t objects n x None (look c.remove.new.self) gone t.highest (n.not_higher (own_key x) s taken) (omega arith);
     }
 
 pub returns-in_default-clause-stands : goal.returns-in_default-clause-stands

@@ -13,4 +13,5 @@ returns-clause-stands c = λ objects n. record {
   shows = c.reserve-2.ensures.stands owner_of (λ _. false) n.rows n.shows;
   are = n.are;
   spots = λ k s e. n.spots k s (sym (c.reserve.ensures.kept k) ∙ e);
+  not_higher = λ k s e. n.not_higher k s (sym (c.reserve.ensures.kept k) ∙ e);
 }

@@ -1,0 +1,13 @@
+use Rattle.std.proofs.Common.{◌≡◌, true, false, is_some, sym, ap, ◌∙◌}
+use Rattle.bd_numbered.specs.Numbered.{value_at}
+use Rattle.bd_records.specs.NameRows.{object_of}
+use Rattle.bd_records.proofs.Naming.{shown_some}
+use Rattle.bd_records.proofs.names.Names.spot_among.Goals as goal
+
+pub unreachable-requires : goal.unreachable-requires
+unreachable-requires c =
+    let t = c.args.self.now in
+    let n = c.in_ok-number.number in
+    let h : is_some (value_at t.rows c.args.p n) ≡ true = shown_some object_of (value_at t.rows c.args.p n) c.args.o (t.leads c.args.p c.args.o n (sym c.number_of.ensures ∙ c.in_ok-number.was)) in
+    let e : is_some (value_at t.rows c.args.p n) ≡ false = ap is_some (sym c.get.ensures ∙ c.in-None.is) in
+    cc
