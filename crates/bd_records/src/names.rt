@@ -141,6 +141,20 @@ impl Names {
         self.rows.next(p, from)
     }
 
+    // The same with its record, where it is this one.
+    #[inline(always)]
+    fn spot_at(&self, p: u64, o: Identity, number: u32) -> Option<NameSpot>
+        ensures number { IfSome result (λ s. number_of self.now p o ≡ Some s.number) }
+        ensures row { IfSome result (λ s. value_at self.now.rows p s.number ≡ Some s.row) }
+    {
+        if let Some(row) = self.rows.look(p, number) {
+            if row.object == o {
+                return Some(NameSpot { number, row: *row });
+            }
+        }
+        None
+    }
+
     /// The number and the record of the process's name of the object.
     #[inline(always)]
     pub(crate) fn spot_of(&self, p: u64, o: Identity) -> Option<NameSpot>
@@ -149,11 +163,8 @@ impl Names {
         ensures none { IfNone result (number_of self.now p o ≡ None) }
     {
         if self.guesses.are_few() {
-            let number = self.guesses.of(key_of(p, o));
-            if let Some(row) = self.rows.look(p, number) {
-                if row.object == o {
-                    return Some(NameSpot { number, row: *row });
-                }
+            if let Some(s) = self.spot_at(p, o, self.guesses.of(key_of(p, o))) {
+                return Some(s);
             }
         }
         self.spot_among(p, o)
@@ -166,7 +177,10 @@ impl Names {
         ensures row { IfSome result (λ s. value_at self.now.rows p s.number ≡ Some s.row) }
         ensures none { IfNone result (number_of self.now p o ≡ None) }
     {
-        let number = self.number_of(p, o)?;
+        if let Some(s) = self.spot_at(p, o, self.guesses.among(key_of(p, o))) {
+            return Some(s);
+        }
+        let number = number_in(&self.numbers, p, o)?;
         match self.rows.get(p, number) {
             Some(row) => Some(NameSpot { number, row }),
             None => unreachable!(),
