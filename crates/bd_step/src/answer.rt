@@ -1,7 +1,7 @@
 //! Answers that take no memory, and answers in brief.
 
 ghost use Rattle.std.specs.Prelude.{◌≡◌};
-ghost use Rattle.bd_step.specs.Plain.{IsWritten};
+ghost use Rattle.bd_step.specs.Plain.{IsWritten, answer_of};
 
 use crate::step_error::StepError;
 use bd_space::StepAnswer;
@@ -27,8 +27,6 @@ pub enum Plain {
 }
 
 impl Plain {
-    ghost use Rattle.bd_step.specs.Plain.{answer_of};
-
     /// As an answer.
     pub fn answer(self) -> StepAnswer
         ensures { result ≡ answer_of self }
@@ -70,6 +68,19 @@ impl Brief {
     }
 }
 
+// Writes it as an answer. Mostly a command is accepted after another one: then nothing is to be written.
+#[inline(always)]
+fn write_plain(plain: Plain, answer: &mut StepAnswer)
+    ensures { answer.new ≡ answer_of plain }
+{
+    if let Plain::Accepted = plain {
+        if let StepAnswer::Accepted = answer {
+            return;
+        }
+    }
+    *answer = plain.answer();
+}
+
 /// Writes an answer that takes no memory, and has it in brief, or the refusal.
 pub(crate) fn written(
     taken: Result<Plain, StepError>,
@@ -79,7 +90,7 @@ pub(crate) fn written(
 {
     match taken {
         Ok(plain) => {
-            *answer = plain.answer();
+            write_plain(plain, answer);
             Ok(Brief::Plain(plain))
         }
         Err(why) => Err(why),

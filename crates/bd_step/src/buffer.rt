@@ -77,6 +77,7 @@ impl Tables {
     }
 
     /// The data as the process is to see it, where there is a copy to be put right: with no object they are as they were sent.
+    #[inline(always)]
     pub(crate) fn put_right(&self, q: u64, copy: Option<Bytes>, items: &[Item]) -> Option<Bytes>
         requires inside { IfSome copy (λ bytes. All (IsInside bytes) items.now) }
         ensures translated { (bytes : List ℕ) → IsCopy copy bytes items.now
@@ -149,7 +150,7 @@ impl Tables {
         ensures room { IfOk result (λ os. CanFollow self.new (length os.items + 2)) }
         ensures told { KeepsTold self.old self.new }
     {
-        let mut touched = Vec::new(self.alloc);
+        let mut touched = self.take_touched();
         self.objects.referred(made, &mut touched)?;
         let touched = in_order(touched);
         self.reserve(NOTHING, touched.len())?;
@@ -184,6 +185,7 @@ impl Tables {
             return Err(StepError::NoMemory);
         };
         self.release_buffer(actor.process.made, made, touched.as_slice());
+        self.keep_touched(touched);
         Ok(Plain::Accepted)
     }
 }

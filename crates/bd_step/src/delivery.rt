@@ -124,10 +124,14 @@ fn known_before(place: u64, x: &Item) -> Option<Identity>
     }
 }
 
-// The objects of these that the step of this place doesn't make: of one that it makes nothing follows.
+// The objects of these that the step of this place doesn't make: of one that it makes nothing follows. Most parcels carry none.
+#[inline(always)]
 fn objects_before(alloc: Global, place: u64, items: &[Item]) -> Result<Vec<Identity>, AllocError>
     ensures { IfOk result (λ os. os.items ≡ filter_map (known_before place) items.now) }
 {
+    if items.is_empty() {
+        return Ok(Vec::new(alloc));
+    }
     items
         .iter()
         .filter_map(|x| known_before(place, x))

@@ -21,12 +21,13 @@ use crate::step_error::StepError;
 use crate::tables::{NOTHING, Tables};
 use crate::touched::in_order;
 use bd_buffers::Lent;
-use bd_codec::write_return;
 use bd_objects::Room;
 use bd_space::{Actor, Bytes, Identity, StepAnswer, Thread, TodoList, Work, WorkKind};
 use bd_todo::hands_out;
-use bd_uapi::{Fault, Return};
+use bd_uapi::Fault;
+use bd_uapi::codes::BR_NOOP;
 use std::alloc::{AllocError, Global};
+use std::mem::replace;
 use std::slice::from_ref;
 
 // Work items, in order. A read mostly takes one, for which no memory is asked.
@@ -108,11 +109,18 @@ fn notice_of(kind: WorkKind) -> Option<Identity>
     }
 }
 
-// The objects of whose notices these are.
-fn noticed(alloc: Global, works: &[Work]) -> Result<Vec<Identity>, AllocError>
-    ensures { IfOk result (λ os. os.items ≡ filter_map (λ w. todo.notice_of w.kind) works.now) }
+// The objects of whose notices these are. Mostly there is none.
+#[inline(always)]
+fn noticed(alloc: Global, works: &Taken) -> Result<Vec<Identity>, AllocError>
+    ensures { IfOk result (λ os. os.items ≡ filter_map (λ w. todo.notice_of w.kind) (works_in works.now)) }
 {
+    if let Taken::One(work) = works {
+        if notice_of(work.kind).is_none() {
+            return Ok(Vec::new(alloc));
+        }
+    }
     works
+        .as_slice()
         .iter()
         .filter_map(|w| notice_of(w.kind))
         .collect(alloc)
@@ -128,46 +136,67 @@ fn made_of(buffer: &Option<Lent<'_>>) -> Option<u64>
     }
 }
 
-// Bytes in memory of their own.
-fn copied(alloc: Global, bytes: &[u8]) -> Result<Bytes, AllocError>
-    ensures { IfOk result (λ b. b ≡ bytes.now) }
+// Takes the memory of an answer that is given up: of the returns' bytes, the data and the offsets. No bytes are left in it.
+#[inline(always)]
+fn take_memory(alloc: Global, answer: &mut StepAnswer) -> (Vec<u8>, Vec<u8>, Vec<u8>)
+    ensures stream { result.0.items ≡ [] }
+    ensures bytes { result.1.items ≡ [] }
+    ensures offsets { result.2.items ≡ [] }
 {
-    let mut items = Vec::with_capacity(alloc, bytes.len())?;
-    items.extend_from_slice(bytes)?;
-    Ok(Bytes::new(items))
+    match replace(answer, StepAnswer::Exited) {
+        StepAnswer::Got {
+            stream,
+            bytes,
+            offsets,
+        } => (emptied(stream), emptied(bytes), emptied(offsets)),
+        _ => (Vec::new(alloc), Vec::new(alloc), Vec::new(alloc)),
+    }
 }
 
-// The answer of a read: the bytes, and copies of the data and offsets that are handed over.
-fn got(alloc: Global, buffer: Option<Lent<'_>>, stream: Vec<u8>) -> Result<StepAnswer, AllocError>
+#[inline(always)]
+fn emptied(bytes: Bytes) -> Vec<u8>
+    ensures { result.items ≡ [] }
+{
+    let mut memory = bytes.into_vec();
+    memory.clear();
+    memory
+}
+
+// The answer of a read: the bytes, and copies of the data and offsets that are handed over, in this memory.
+#[inline(always)]
+fn got(
+    buffer: Option<Lent<'_>>,
+    stream: Vec<u8>,
+    mut bytes: Vec<u8>,
+    mut offsets: Vec<u8>,
+) -> Result<StepAnswer, AllocError>
+    requires bytes { bytes.items ≡ [] }
+    requires offsets { offsets.items ≡ [] }
     ensures answer { IfOk result (λ answer. answer ≡ spec.got stream.items buffer.entry) }
     ensures got { IfOk result (λ answer. IsGot answer) }
 {
-    match buffer {
-        Some(b) => Ok(StepAnswer::Got {
-            stream: Bytes::new(stream),
-            bytes: copied(alloc, b.bytes())?,
-            offsets: copied(alloc, b.offsets())?,
-        }),
-        None => Ok(StepAnswer::Got {
-            stream: Bytes::new(stream),
-            bytes: Bytes::new(Vec::new(alloc)),
-            offsets: Bytes::new(Vec::new(alloc)),
-        }),
+    if let Some(b) = buffer {
+        bytes.extend_from_slice(b.bytes())?;
+        offsets.extend_from_slice(b.offsets())?;
     }
+    Ok(StepAnswer::Got {
+        stream: Bytes::new(stream),
+        bytes: Bytes::new(bytes),
+        offsets: Bytes::new(offsets),
+    })
 }
 
 // What a reading of one work item mostly has: the Noop and the longest return.
 const LONGEST_OF_ONE: usize = 4 + 68;
 
 // The bytes of a reading to which nothing is taken yet.
-fn begin(alloc: Global) -> Result<Vec<u8>, AllocError>
-    ensures { IfOk result (λ stream. stream.items ≡ return_bytes Noop) }
+#[inline(always)]
+fn begin(stream: &mut Vec<u8>) -> Result<(), AllocError>
+    requires { stream.old.items ≡ [] }
+    ensures { OnOk result (stream.new.items ≡ return_bytes Noop) }
 {
-    let mut stream = Vec::with_capacity(alloc, LONGEST_OF_ONE)?;
-    if write_return(&Return::Noop, &mut stream).is_err() {
-        return Err(AllocError);
-    }
-    Ok(stream)
+    stream.reserve(LONGEST_OF_ONE)?;
+    stream.extend_from_slice(&BR_NOOP.to_le_bytes())
 }
 
 // Fewer bytes are left than the longest return has.
@@ -207,8 +236,8 @@ impl Tables {
         ensures stream { OnOk result
             (TellsBefore self.now stream.new.items (λ s. stream.old.items ++ returns.bytes_read s work)) }
     {
-        self.append_work(work.kind, stream)?;
-        works.push(self.alloc, work)
+        works.push(self.alloc, work)?;
+        self.append_work(work.kind, stream)
     }
 
     // What a read takes off a list: item after item, while at least 68 bytes are left and none ends the read. They are put where
@@ -239,6 +268,7 @@ impl Tables {
     }
 
     // The buffer that is handed over by reading these.
+    #[inline(always)]
     fn buffer_taken(&self, works: &[Work]) -> Option<Lent<'_>>
         ensures { TellsWithin self.now result (λ s. spec.buffer_taken s works.now) }
     {
@@ -299,13 +329,14 @@ impl Tables {
         ensures told { KeepsTold self.old self.new }
     {
         let mut works = Taken::Nothing;
-        let mut stream = begin(self.alloc)?;
+        let (mut stream, bytes, offsets) = take_memory(self.alloc, answer);
+        begin(&mut stream)?;
         self.select(list, limit, &mut works, &mut stream)?;
         let buffer = self.buffer_taken(works.as_slice());
         let made = made_of(&buffer);
-        *answer = got(self.alloc, buffer, stream)?;
+        *answer = got(buffer, stream, bytes, offsets)?;
         keep.keep(answer)?;
-        let touched = in_order(noticed(self.alloc, works.as_slice())?);
+        let touched = in_order(noticed(self.alloc, &works)?);
         self.reserve_read(works.len(), touched.len())?;
         self.read_by(thread.seat, works.as_slice(), made);
         self.follow_objects(touched.as_slice());

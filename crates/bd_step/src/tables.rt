@@ -1,6 +1,6 @@
 //! The tables that a space is kept in, and room in them.
 
-ghost use Rattle.std.specs.Prelude.{OnOk, OnErr};
+ghost use Rattle.std.specs.Prelude.{◌≡◌, [], OnOk, OnErr};
 
 use bd_buffers::Windows;
 use bd_calls::CallTable;
@@ -8,6 +8,7 @@ use bd_objects::{ObjectTable, Room};
 use bd_processes::ProcessTable;
 use bd_space::Identity;
 use std::alloc::{AllocError, Global};
+use std::mem::replace;
 
 /// For a step that makes nothing among the objects.
 pub(crate) const NOTHING: Room = Room {
@@ -17,6 +18,9 @@ pub(crate) const NOTHING: Room = Room {
     process: 0,
     deaths: 0,
 };
+
+// The room for more objects isn't kept.
+const KEPT: usize = 1024;
 
 /// The tables of an engine.
 pub struct Tables {
@@ -34,6 +38,8 @@ pub struct Tables {
     pub windows: Windows,
     /// What their memory comes from.
     pub alloc: Global,
+    // Room for the objects at which something may follow from a step: kept for the next one.
+    touched: Vec<Identity>,
 }
 
 // Written out: one that is derived would be proved again, with that of each table, in every crate that holds tables.
@@ -47,13 +53,14 @@ impl Drop for Tables {
             calls: _,
             windows: _,
             alloc: _,
+            touched: _,
         } = self;
     }
 }
 
 impl Tables {
     ghost use Rattle.bd_space.specs.Space.{opening};
-    ghost use Rattle.bd_step.specs.{Stands.{Before, HasRoom, IsReserved, KeepsRoom, KeepsTold}, Meets.{IsKept}};
+    ghost use Rattle.bd_step.specs.{Stands.{Before, MakesWithin, HasRoom, IsReserved, KeepsRoom, KeepsTold}, Meets.{IsKept}};
 
     /// The tables of a new engine. Takes no memory.
     pub fn new(alloc: Global) -> Tables
@@ -67,6 +74,31 @@ impl Tables {
             calls: CallTable::new(alloc),
             windows: Windows::new(alloc),
             alloc,
+            touched: Vec::new(alloc),
+        }
+    }
+
+    /// Room for objects, with none in it.
+    #[inline(always)]
+    pub(crate) fn take_touched(&mut self) -> Vec<Identity>
+        ensures none { result.items ≡ [] }
+        ensures stands { IsKept self.old self.new }
+        ensures told { KeepsTold self.old self.new }
+    {
+        let none = Vec::new(self.alloc);
+        let mut touched = replace(&mut self.touched, none);
+        touched.clear();
+        touched
+    }
+
+    /// Keeps that room, unless it is much.
+    #[inline(always)]
+    pub(crate) fn keep_touched(&mut self, touched: Vec<Identity>)
+        ensures stands { MakesWithin self.old self.new (λ s. s) }
+        ensures told { KeepsTold self.old self.new }
+    {
+        if touched.capacity() <= KEPT {
+            self.touched = touched;
         }
     }
 

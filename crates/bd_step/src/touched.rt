@@ -168,6 +168,7 @@ impl Tables {
     }
 
     /// What follows at these objects, given in the order in which they were made.
+    #[inline(always)]
     pub(crate) fn follow_objects(&mut self, touched: &[Identity])
         requires in_order { Pairs NotLater touched.now }
         requires room { length touched.now ≤ work_room self.old.calls }

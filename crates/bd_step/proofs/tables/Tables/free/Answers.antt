@@ -58,7 +58,7 @@ returns-clause-step c =
           let b = buffer_freed s p c.args.pointer made checked in
           record {
             answered = ap (λ (o : Outcome). o.answer) is;
-            stands = subst (λ (o : Outcome). Within c.release_buffer.new.self o.space) is
+            stands = c.keep_touched.ensures.stands _ (subst (λ (o : Outcome). Within c.release_buffer.new.self o.space) is
                 (c.release_buffer.ensures.stands s (within _ s (c.in-Ok-ready_to_free.ensures.stands s h)) (record {
                   tidy = by.tidy;
                   buffer = b.0;
@@ -66,7 +66,7 @@ returns-clause-step c =
                   made_there = b.2;
                   is_its = b.3;
                   touches = subst (AreTouched (is_among (referred s made))) (sym c.as_slice.ensures.value) (c.in-Ok-ready_to_free.ensures.touched s h);
-                }));
+                })));
           });
       err = tt;
       full = tt;
