@@ -186,6 +186,13 @@ def flat_cost(found, what, slack=SLACK):
     return after <= slack * before + 2
 
 
+def costs_no_more(found, untimed):
+    """Whether a call and a look-up are so; where times aren't judged, a look-up by and large."""
+    if untimed:
+        return flat_cost(found, "find", BUSY * SLACK_OF_OBJECTS)
+    return flat_cost(found, "call") and flat_cost(found, "find", SLACK_OF_OBJECTS)
+
+
 @test("raw services")
 def services(build):
     """Each of a process of its own."""
@@ -195,10 +202,10 @@ def services(build):
     with Stage(build) as of_many:
         of_many.manage()
         told = of_many.run([build.raw("services"), "300"], 180)
-        if not (build.sanitized or build.untimed):
-            if not (flat_cost(told, "call") and flat_cost(told, "find", SLACK_OF_OBJECTS)):
+        if not build.sanitized:
+            if not costs_no_more(told, build.untimed):
                 told = of_many.run([build.raw("services"), "300"], 180)  # once more, should other work have come between
-            expect(flat_cost(told, "call") and flat_cost(told, "find", SLACK_OF_OBJECTS), f"slower with more services: {told}")
+            expect(costs_no_more(told, build.untimed), f"slower with more services: {told}")
     return f"{told}; lawful, {stage.entries} steps"
 
 
