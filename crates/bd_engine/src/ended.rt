@@ -54,6 +54,7 @@ impl Live {
     /// the place of the step that made it, oldest first. Only a `BC_FREE_BUFFER`, which may end one, and an exit, which ends
     /// buffers of its own process alone, look for them; a step of another kind costs nothing more. Memory for them is asked
     /// for before the step. Errors: as `step`; then `ended` is empty.
+    #[inline(always)]
     pub fn step_with_ended(
         &mut self,
         seat: u32,

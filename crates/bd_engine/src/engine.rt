@@ -9,6 +9,7 @@ ghost use Rattle.bd_engine.specs.Refusals.{FullOnly, MemoryOnly, IsSeatFault};
 ghost use Rattle.bd_step.specs.declared.step_error.StepError.TheVariants.{NoMemory};
 
 use crate::parcel::Sheet;
+use crate::reading::Reading;
 use crate::tables::HasTables;
 use crate::wide::WideEngine;
 use crate::write::Progress;
@@ -27,6 +28,8 @@ pub struct Engine {
     pub(crate) progress: Progress,
     // What the latest command was entered as.
     pub(crate) command: Sheet,
+    // What the latest request of one step was entered as.
+    pub(crate) reading: Reading,
 }
 
 impl Model for Engine {
@@ -48,6 +51,7 @@ impl Drop for Engine {
             wide: _,
             progress: _,
             command: _,
+            reading: _,
         } = self;
     }
 }
@@ -91,6 +95,7 @@ impl Engine {
             wide,
             progress: Progress::new(alloc),
             command: Sheet::new(alloc),
+            reading: Reading::new(alloc),
         })
     }
 
@@ -144,6 +149,7 @@ impl Engine {
             wide,
             progress: _,
             command: _,
+            reading: _,
         } = self;
         wide.into_record()
     }

@@ -10,6 +10,7 @@ mod narrow;
 mod parcel;
 mod reached;
 mod readiness;
+mod reading;
 mod run;
 mod tables;
 mod wide;

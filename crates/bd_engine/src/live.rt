@@ -153,6 +153,7 @@ impl Live {
     /// Makes one step, and hands out its entry, which has the answer. It is the only copy: drop it, and nothing tells that
     /// the step was made. Errors: 18446744073709551615 steps were made, which is found before any memory is asked for; memory was
     /// refused; or a name would have to be numbered above 4294967294.
+    #[inline(always)]
     pub fn step(&mut self, seat: u32, step: Step) -> Result<Entry, StepError>
         requires { seat < self.old.seats }
         // The entry is of this step.

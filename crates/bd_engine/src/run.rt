@@ -11,8 +11,9 @@ ghost use Rattle.bd_step.specs.{Plain.{IsBrief, IsGot}, declared.answer.Brief.Th
 ghost use Rattle.bd_engine.specs.{Refusals.{FullOnly, MemoryOnly}, Writing.{IsWrite, IsOneStep}};
 
 use crate::engine::Engine;
+use crate::reading::Reading;
 use crate::wide::WideEngine;
-use bd_space::{Answer, Entry, Request, Step, StepAnswer};
+use bd_space::{Answer, Request, Step, StepAnswer};
 use bd_step::{Brief, Plain, StepError};
 
 /// What a run answered, and the places of its steps: from `from` up to and without `to`.
@@ -57,7 +58,7 @@ fn got(answer: StepAnswer) -> Answer
 
 // What the only step of a request answers it: its answer in brief, and what was read.
 #[inline(always)]
-fn answered(brief: Brief, again: StepAnswer) -> Answer
+pub(crate) fn answered(brief: Brief, again: StepAnswer) -> Answer
     requires { brief ≡ Got → IsGot again }
     ensures { (answer : words.StepAnswer) → IsBrief brief answer → (brief ≡ Got → again ≡ answer) → result ≡ answered answer }
 {
@@ -97,7 +98,13 @@ fn step_of(request: &Request) -> Option<Step>
 impl WideEngine {
     // A request that is one step. Its answer is written to `told`.
     #[inline(always)]
-    fn single(&mut self, seat: u32, step: Step, told: &mut Answer) -> Result<Span, StepError>
+    fn single(
+        &mut self,
+        seat: u32,
+        step: Step,
+        told: &mut Answer,
+        reading: &mut Reading,
+    ) -> Result<Span, StepError>
         requires seat { seat < self.old.seats }
         requires bare { SpellsCommand step [] }
         ensures ok { (request : Request) → ((s : Space) → runs.run s seat request ≡ runs.single s seat step)
@@ -108,12 +115,12 @@ impl WideEngine {
         ensures seats { self.new.seats ≡ self.old.seats }
     {
         let from = self.len();
-        let answer = StepAnswer::Exited;
-        let mut entry = Entry { seat, step, answer };
-        match self.step_in_place(&mut entry, &[]) {
+        reading.keep(told);
+        reading.put(seat, step);
+        match self.step_in_place(&mut reading.entry, &[]) {
             Err(why) => Err(why),
             Ok(brief) => {
-                *told = answered(brief, entry.answer);
+                reading.tell(brief, told);
                 Ok(Span {
                     from,
                     to: self.len(),
@@ -144,7 +151,7 @@ impl Engine {
         ensures some { IfErr result (λ _. HasEntry self.old seat request.now) }
     {
         match step_of(request) {
-            Some(step) => self.wide.single(seat, step, told),
+            Some(step) => self.wide.single(seat, step, told, &mut self.reading),
             None => match request {
                 Request::Write { stream, area } => {
                     self.write(seat, stream.as_slice(), area.as_slice(), told)

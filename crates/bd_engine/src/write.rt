@@ -16,6 +16,7 @@ ghost use Rattle.bd_space.specs.declared.step.Answer.TheVariants.{Wrote};
 
 use crate::engine::Engine;
 use crate::parcel::Sheet;
+use crate::reading::Reading;
 use crate::run::Span;
 use crate::wide::WideEngine;
 use bd_codec::read_command;
@@ -204,10 +205,11 @@ impl Progress {
     // Writes the answer to the write, which ended so, over the answer to an earlier one: where neither has notes only their
     // numbers differ.
     #[inline(always)]
-    fn tell(&mut self, going: Going, told: &mut Answer)
+    fn tell(&mut self, going: Going, told: &mut Answer, reading: &mut Reading)
         ensures { told.new ≡ ended self.old going }
     {
         if !self.notes.is_empty() || !is_unnoted(told) {
+            reading.keep(told);
             *told = self.answer(going);
             return;
         }
@@ -350,7 +352,7 @@ impl Engine {
         match wide.run_each(seat, stream, area, &mut self.progress, &mut self.command) {
             Err(why) => Err(why),
             Ok(going) => {
-                self.progress.tell(going, told);
+                self.progress.tell(going, told, &mut self.reading);
                 Ok(Span {
                     from,
                     to: self.len(),

@@ -4,5 +4,8 @@ use Rattle.bd_engine.proofs.wide.WideEngine.single.Goals as goal
 
 pub returns-in-Ok-clause-ok : goal.returns-in-Ok-clause-ok
 returns-in-Ok-clause-ok c = λ request one.
-    let said = c.answered.ensures _ c.in-Ok.ensures.brief (λ got. refl) in
-    single_has_run _ _ _ _ _ _ _ _ _ c.in-Ok.ensures.history c.in-Ok.ensures.answer said c.len-from.ensures c.len.ensures one
+    let made = c.in-Ok.ensures in
+    let history = rw c.put.ensures.seat at (rw c.put.ensures.step at made.history) in
+    let answer = rw c.put.ensures.seat at (rw c.put.ensures.step at made.answer) in
+    let said = c.tell.ensures _ made.brief (λ got. refl) in
+    single_has_run _ _ _ _ _ _ _ _ _ history answer said c.len-from.ensures c.len.ensures one
