@@ -69,7 +69,7 @@ fn steps() -> Vec<Step> {
 }
 
 const LINES: [&str; 5] = [
-    "11:03:07.001000 Binder:1(9000200/9000201) -> manager(9000100/9000100) manager#3 112 B = 4 B <1.2 ms, 13.1 us unread>",
+    "11:03:07.001000 Binder:1(9000200/9000201) -> manager(9000100/9000100) android.os.IServiceManager#3 112 B = 4 B <1.2 ms, 13.1 us unread>",
     "11:03:07.003000 cl\\u{1b}ent(9000300/9000300) -> Binder:1(9000200/9000201) hello _PNG one-way 76 B <31.2 us unread>",
     "11:03:07.004000 cl\\u{1b}ent(9000300/9000300) -> nobody handle 5#9 0 B = X1 NotStronglyNamed: the handle is not strongly named",
     "11:03:07.005000 cl\\u{1b}ent(9000300/9000300) -> Binder:1(9000200/9000201) hello#7 0 B = no reply <500.0 us, 1.0 us unread>",
@@ -385,7 +385,10 @@ fn check_screen(screen: &str) {
     };
     assert!(screen.contains(" calls/s, 2 processes, 3 threads"), "{screen}");
     assert_eq!(rest("mean", 0), "calls/s bytes/s mean most failed from -> to what");
-    assert_eq!(rest("manager#3", 2), "1.2 ms 1.2 ms 0 Binder:1 -> manager manager#3");
+    assert_eq!(
+        rest("android.os.IServiceManager#3", 2),
+        "1.2 ms 1.2 ms 0 Binder:1 -> manager android.os.IServiceManager#3"
+    );
     assert_eq!(rest("unread", 0), "made/s served/s failed waits unread buffers window process");
     assert_eq!(rest("manager(9000100)", 2), "0 0 0 - - manager(9000100)");
     // The client has a call that nobody has read, from before.

@@ -103,12 +103,13 @@ fn call(line: &str) -> (String, String, String) {
 
 #[test]
 #[ignore = "needs the daemon and libgbinder's tools"]
-fn calls_of_unmodified_programs_are_told() {
+fn calls_of_unmodified_programs_are_told_with_their_interfaces() {
     let daemon = Daemon::new("trace");
     let (listed, said) = daemon.asked(&["trace", "binder-list", "-d", "/dev/binder"]);
     assert_eq!(listed, "hello\n");
     let calls: Vec<_> = said.lines().map(call).collect();
-    let of_manager = calls.iter().filter(|it| it.1 == "servicemanager" && it.2.starts_with("manager#4 "));
+    let of_manager =
+        calls.iter().filter(|it| it.1 == "servicemanager" && it.2.starts_with("android.os.IServiceManager#4 "));
     // The tool asks for one name after the other, until there is none.
     assert_eq!(of_manager.count(), 2, "{said}");
     let (pinged, said) = daemon.asked(&["trace", "binder-ping", "-d", "/dev/binder", "hello"]);

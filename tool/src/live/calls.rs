@@ -161,16 +161,14 @@ impl Calls {
         None
     }
 
-    /// What an object is called, as of a recording: as it was registered, or the manager; else by its interface, or by its number.
+    /// What an object is called: as it was registered, by its interface, or by its number.
     fn what(&self, slot: &Slot) -> String {
         let object = match slot.object {
             Some(object) => object,
             None => return format!("handle {}", slot.handle),
         };
-        let registered =
-            self.services.get(&object).map(String::as_str).or_else(|| (slot.handle == 0).then_some("manager"));
-        let known = registered.or_else(|| self.interfaces.get(&object).map(String::as_str));
-        known.map_or_else(|| format!("{}.{}", object.0, object.1), String::from)
+        let known = self.services.get(&object).or_else(|| self.interfaces.get(&object));
+        known.cloned().unwrap_or_else(|| format!("{}.{}", object.0, object.1))
     }
 
     /// What a parcel tells of the object that is called, and of one that is registered with a manager by it.
