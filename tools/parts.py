@@ -2,14 +2,15 @@
 """The parts of ./check: what each runs and stands on, how its count is read, and the sum of all.
 
 A part has passed if it ends with 0, and has printed its count, and that is of something, and of no failure. One that ends otherwise
-counts as one failure at least, and so does one that wasn't run because what it stands on has failed.
+counts as one failure at least, and so does one that wasn't run because what it stands on has failed. Two lanes of parts run side by side,
+the parts of each in turn.
 """
 import argparse
+import contextlib
 import datetime
 import json
 import os
 import re
-import resource
 import shutil
 import signal
 import subprocess
@@ -33,16 +34,21 @@ TRIES = 3
 LAST_WORDS = 5
 # on a busy machine a part may take longer by the clock, but no more than so many times
 MOST_TIMES = 4
+# seconds between two looks at whether a part has ended, and between two at its clock
+GLANCE, LOOK = 0.05, 1
+# Set where nothing more is to be run: what runs is ended.
+STOPPED = threading.Event()
+PRINTING = threading.Lock()
 
 
 class Part:
     """A part: its command; how a line with its count looks, `passed` and `failed` in it; how many minutes it may take of a machine that
-    does nothing else; which parts it stands on; which kinds of packages it needs (tools/fetch), and whether a network besides. A count
-    that isn't of tests is one test."""
+    does nothing else; which parts it stands on; which kinds of packages it needs (tools/fetch), and whether a network besides; and whether it
+    runs in the second lane, beside the others. A count that isn't of tests is one test."""
 
-    def __init__(self, name, words, count, minutes, needs=(), kinds=(), network=False):
+    def __init__(self, name, words, count, minutes, needs=(), kinds=(), network=False, beside=False):
         self.name, self.words, self.count, self.minutes = name, words, re.compile(count, re.M), minutes
-        self.needs, self.kinds, self.network = needs, kinds, network
+        self.needs, self.kinds, self.network, self.beside = needs, kinds, network, beside
 
     def read(self, said, status):
         """How many passed and failed, of all that it printed."""
@@ -56,13 +62,13 @@ class Part:
 
 
 def whole(anew):
-    """All parts, in their order."""
-    of_gate, of_archive = ("gate",), ("archive",)
+    """All parts, in their order. The edits, which take the prover, leave one processor to the tests that run beside them."""
+    of_gate, of_archive, of_edits = ("gate",), ("archive",), str(max(1, len(os.sched_getaffinity(0)) - 1))
     return [
         Part("gate", ["tools/gate-time", "rt", "ci", *(["--anew"] if anew else [])], r"^(?P<passed>\d+) passed, (?P<failed>\d+) failed$", 170),
-        Part("edits", ["tools/edits"], r"^edits: (?P<passed>\d+) refused, (?P<failed>\d+) failed$", 90, of_gate),
-        Part("documents", ["tools/check-docs"], r"^[1-9]\d* words and paths in backticks, (?P<failed>\d+) not found$", 10),
-        Part("manners", ["tools/manners"], r"^manners: (?P<passed>\d+) passed, (?P<failed>\d+) failed$", 15),
+        Part("documents", ["tools/check-docs"], r"^[1-9]\d* words and paths in backticks, (?P<failed>\d+) not found$", 10, beside=True),
+        Part("manners", ["tools/manners"], r"^manners: (?P<passed>\d+) passed, (?P<failed>\d+) failed$", 15, beside=True),
+        Part("edits", ["tools/edits", "--jobs", of_edits], r"^edits: (?P<passed>\d+) refused, (?P<failed>\d+) failed$", 120, of_gate, beside=True),
         Part("examples", ["tools/examples", PLAYER], r"^(?P<passed>\d+) runs, played by \d+ programs, (?P<failed>\d+) differences$", 20, of_gate),
         Part("program", ["tools/program", PLAYER], r"^(?P<passed>\d+) runs, (?P<failed>\d+) bad$", 30, of_gate),
         Part("words", ["tools/words", PLAYER], r"^(?P<passed>\d+) runs, (?P<failed>\d+) bad$", 20, of_gate),
@@ -89,14 +95,23 @@ class Result:
         self.name, self.passed, self.failed, self.wall, self.processor, self.why = part.name, passed, failed, wall, processor, why
 
 
+def status_of(child):
+    """A child's status, None while it runs. Once it has ended, `used` is how many seconds of the processor it took, with all that it began."""
+    if child.returncode is None:
+        pid, ended_so, used = os.wait4(child.pid, os.WNOHANG)
+        if pid:
+            child.returncode, child.used = os.waitstatus_to_exitcode(ended_so), used.ru_utime + used.ru_stime
+    return child.returncode
+
+
 def ended(child):
     """Ends a part with all that it has begun."""
     for number in (signal.SIGTERM, signal.SIGKILL):
-        try:
+        with contextlib.suppress(ProcessLookupError):
             os.killpg(child.pid, number)
-            child.wait(timeout=leash.IN_ORDER + 2 * leash.LEFT_OVER)
-        except (ProcessLookupError, subprocess.TimeoutExpired):
-            pass
+        until = time.monotonic() + leash.IN_ORDER + 2 * leash.LEFT_OVER
+        while status_of(child) is None and time.monotonic() < until:
+            time.sleep(GLANCE)
 
 
 def threads_of(pids):
@@ -131,19 +146,27 @@ class Clock:
 
 
 def waited(child, seconds):
-    """A child's status; None where it took more than so many seconds of a machine that does nothing else, or a multiple by the clock."""
+    """A child's status; None where it took more than so many seconds of a machine that does nothing else, or a multiple by the clock, or
+    where nothing more is to be run."""
     clock, until = Clock(child.pid), time.monotonic() + MOST_TIMES * seconds
-    while clock.taken < seconds and time.monotonic() < until:
-        try:
-            return child.wait(timeout=1)
-        except subprocess.TimeoutExpired:
+    while clock.taken < seconds and time.monotonic() < until and not STOPPED.is_set():
+        if status_of(child) is not None:
+            return child.returncode
+        time.sleep(GLANCE)
+        if time.monotonic() - clock.seen > LOOK:
             clock.look()
     return None
 
 
+def tell(part, line):
+    """Prints a line of a part. One that runs beside others names itself."""
+    with PRINTING:
+        print(f"{part.name}| {line}" if part.beside else line, end="", flush=True)
+
+
 def watched(part, log):
-    """Runs a part, prints what it says and writes it down; what it said, and its status, None where it took too long. What it leaves
-    running is ended with it, and so is the part where this is killed."""
+    """Runs a part, prints what it says and writes it down; what it said, its status, None where it took too long, and the processor's seconds
+    that it took. What it leaves running is ended with it, and so is the part where this is killed."""
     said = []
     words = [sys.executable, f"{ROOT}/tools/leash.py", *part.words]
     child = subprocess.Popen(words, cwd=ROOT, stdin=subprocess.DEVNULL, stdout=subprocess.PIPE, stderr=subprocess.STDOUT, text=True,
@@ -153,54 +176,85 @@ def watched(part, log):
         for line in child.stdout:
             said.append(line)
             log.write(line)
-            print(line, end="", flush=True)
+            tell(part, line)
 
     listener = threading.Thread(target=listen, daemon=True)
     listener.start()
     try:
         status = waited(child, 60 * part.minutes)
     finally:
-        listener.join(0 if child.poll() is None else LAST_WORDS)
+        listener.join(0 if status_of(child) is None else LAST_WORDS)
         ended(child)
         listener.join(LAST_WORDS)
-    return "".join(said), status
+    return "".join(said), status, getattr(child, "used", 0.0)
 
 
 def run(part, folder=LOGS):
     """Runs a part; its result."""
-    print(f"== {part.name}: {' '.join(part.words)}", flush=True)
-    began, before = time.monotonic(), resource.getrusage(resource.RUSAGE_CHILDREN)
+    tell(part, f"== {part.name}: {' '.join(part.words)}\n")
+    began = time.monotonic()
     os.makedirs(folder, exist_ok=True)
     with open(f"{folder}/{part.name}.log", "w", encoding="utf-8") as log:
         try:
-            said, status = watched(part, log)
+            said, status, used = watched(part, log)
         except OSError as error:
             return Result(part, 0, 1, why=f"not run: {error}")
-    after = resource.getrusage(resource.RUSAGE_CHILDREN)
     passed, failed = part.read(said, status)
     why = "" if not failed else f"took over {part.minutes} minutes" if status is None else f"status {status}"
-    used = after.ru_utime + after.ru_stime - before.ru_utime - before.ru_stime
     return Result(part, passed, failed, time.monotonic() - began, used, why)
 
 
+class Lanes:
+    """Runs parts in two lanes, side by side: those of each in turn, and none that stands on one which failed."""
+
+    def __init__(self, parts, folder):
+        self.parts, self.folder, self.results, self.changed = parts, folder, {}, threading.Condition()
+
+    def result(self, part):
+        """What comes of a part, once there is a result of all that it stands on and that is run."""
+        needs = [it.name for it in self.parts if it.name in part.needs]
+        with self.changed:
+            self.changed.wait_for(lambda: STOPPED.is_set() or all(it in self.results for it in needs))
+            below = [it for it in needs if it in self.results and self.results[it].failed]
+        if STOPPED.is_set():
+            return Result(part, 0, 1, why="not run: stopped")
+        return Result(part, 0, 1, why=f"not run: {below[0]} failed") if below else run(part, self.folder)
+
+    def go(self, beside):
+        """Runs the parts of one lane."""
+        for part in (it for it in self.parts if it.beside == beside):
+            made = self.result(part)
+            with self.changed:
+                self.results[part.name] = made
+                self.changed.notify_all()
+
+    def run(self):
+        """Runs all; where this is told to end, what runs in the other lane is ended first."""
+        other = threading.Thread(target=self.go, args=(True,))
+        other.start()
+        try:
+            self.go(False)
+        except BaseException:
+            with self.changed:
+                STOPPED.set()
+                self.changed.notify_all()
+            raise
+        finally:
+            other.join()
+        return [self.results[it.name] for it in self.parts]
+
+
 def run_all(parts, folder=LOGS):
-    """Runs the parts in turn, but none that stands on one which failed."""
-    results, failed = [], set()
-    for part in parts:
-        below = [it for it in part.needs if it in failed]
-        result = Result(part, 0, 1, why=f"not run: {below[0]} failed") if below else run(part, folder)
-        if result.failed:
-            failed.add(part.name)
-        results.append(result)
-    return results
+    """Runs the parts; their results, in the parts' order."""
+    return Lanes(parts, folder).run()
 
 
-def table(results):
-    """The lines of the table."""
+def table(results, wall):
+    """The lines of the table, of parts that took so many seconds all together."""
     rows = [("Part", "passed", "failed", "minutes", "processor minutes", "")]
     rows += [(it.name, str(it.passed), str(it.failed), f"{it.wall / 60:.1f}", f"{it.processor / 60:.1f}", it.why) for it in results]
     rows.append(("all", *(str(sum(getattr(it, name) for it in results)) for name in ("passed", "failed")),
-                 *(f"{sum(getattr(it, name) for it in results) / 60:.1f}" for name in ("wall", "processor")), ""))
+                 f"{wall / 60:.1f}", f"{sum(it.processor for it in results) / 60:.1f}", ""))
     wide = [max(len(row[at]) for row in rows) for at in range(5)]
     for row in rows:
         cells = [row[0].ljust(wide[0]), *(row[at].rjust(wide[at]) for at in range(1, 5)), row[5]]
@@ -238,10 +292,10 @@ def fetched(parts, offline):
         yield "roots of Debian's suites"
 
 
-def keep(results):
+def keep(results, wall):
     """Writes down what the whole check came to, for --write."""
-    parts = [vars(it) for it in results]
-    about = {"commit": proved.commit(), "date": datetime.date.today().isoformat(), "processors": len(os.sched_getaffinity(0)), "parts": parts}
+    about = {"commit": proved.commit(), "date": datetime.date.today().isoformat(), "processors": len(os.sched_getaffinity(0)), "wall": wall,
+             "parts": [vars(it) for it in results]}
     with open(LAST, "w", encoding="utf-8") as file:
         json.dump(about, file, indent=1)
 
@@ -259,7 +313,8 @@ def replaced(name, pattern, text):
 
 def told(about):
     """What the last whole check came to, in words, and the table of its parts. One that tools/fresh ran has where that was."""
-    passed, failed, wall, used = (sum(it[name] for it in about["parts"]) for name in ("passed", "failed", "wall", "processor"))
+    passed, failed, used = (sum(it[name] for it in about["parts"]) for name in ("passed", "failed", "processor"))
+    wall = about["wall"]
     took = ", ".join([f"{wall / 60:.0f} minutes on {about['processors']} processors", f"{used / 60:.0f} of a processor", *filter(None, [about.get("where")])])
     rows = [f"| `{it['name']}` | {it['passed']} | {it['failed']} | {it['wall'] / 60:.1f} | {it['processor'] / 60:.1f} |" for it in about["parts"]]
     table = ["| Part | Passed | Failed | Minutes | Processor minutes |", "|---|---|---|---|---|", *rows,
@@ -308,11 +363,13 @@ def main():
     missing = list(fetched(parts, given.offline))
     for it in missing:
         print(f"check: {it} can't be had, so nothing is run")
+    began = time.monotonic()
     results = [] if missing else run_all(parts)
+    wall = time.monotonic() - began
     shutil.rmtree(ROOTS, ignore_errors=True)  # they are large, and by the next time old
-    print("", *table(results), sep="\n")
+    print("", *table(results, wall), sep="\n")
     if not lacks and not missing:
-        keep(results)
+        keep(results, wall)
     print(f"0 passed, {len(missing)} failed" if missing else last_line(results, "; ".join(lacks)))
     return 1 if missing or not results or any(it.failed for it in results) else 0
 
