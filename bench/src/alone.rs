@@ -29,6 +29,9 @@ pub fn asks() -> *const c_void {
 /// Stands for a seat of an engine beside, behind a mutex.
 pub struct ByMutex;
 
+/// Stands for one that waits for its turn.
+pub type ByTicket = ByMutex;
+
 impl Engine for ByRequests {
     type Form = Ask;
 

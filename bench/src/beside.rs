@@ -3,6 +3,7 @@
 //! asked as ours is, with bytes that it takes a copy of, and with steps that were made ahead.
 use crate::commands;
 use crate::engines::{Engine, Told};
+use crate::sharing::pause;
 use crate::steps::Ask;
 use baseline::engine::{self, replay};
 use baseline::hist::VecHist;
@@ -196,14 +197,47 @@ pub fn read(bytes: &[u8]) -> usize {
     journal::read(bytes).expect("a journal").1.len()
 }
 
-/// An engine behind a mutex, and the seats that are ready.
+/// A number in a cache line of its own.
+#[derive(Default)]
+#[repr(align(64))]
+struct Counter(AtomicU32);
+
+/// An engine behind a mutex, and the seats that are ready. By tickets each request waits for its turn first.
 struct Shared {
     engine: Mutex<Inner>,
     ready: AtomicU32,
+    /// The number of the next ticket.
+    next: Counter,
+    /// The number whose turn it is.
+    called: Counter,
 }
 
-/// A seat of an engine behind a mutex.
+impl Shared {
+    fn of(engine: ByRequests) -> Arc<Shared> {
+        let ready = AtomicU32::new(engine.0.ready());
+        Arc::new(Shared { engine: Mutex::new(engine.0), ready, next: Counter::default(), called: Counter::default() })
+    }
+
+    fn ask(&self, seat: u32, request: types::Request) -> RunAnswer {
+        let mut engine = self.engine.lock().expect("no thread panics");
+        let answer = engine.run(seat, request).0;
+        self.ready.store(engine.ready(), Ordering::Release);
+        answer
+    }
+
+    fn is_ready(&self, seat: u32) -> bool {
+        self.ready.load(Ordering::Acquire) >> seat & 1 == 1
+    }
+}
+
+/// A seat of an engine behind a mutex, which wakes whom it likes.
 pub struct ByMutex {
+    shared: Arc<Shared>,
+    seat: u32,
+}
+
+/// A seat of an engine behind tickets: who asks first is answered first, and looks until then, as a seat of ours does.
+pub struct ByTicket {
     shared: Arc<Shared>,
     seat: u32,
 }
@@ -211,24 +245,43 @@ pub struct ByMutex {
 impl ByMutex {
     /// All seats of an engine.
     pub fn seats(engine: ByRequests) -> Vec<ByMutex> {
-        let seats = engine.0.seats;
-        let ready = AtomicU32::new(engine.0.ready());
-        let shared = Arc::new(Shared { engine: Mutex::new(engine.0), ready });
+        let (seats, shared) = (engine.0.seats, Shared::of(engine));
         (0..seats).map(|seat| ByMutex { shared: shared.clone(), seat }).collect()
+    }
+}
+
+impl ByTicket {
+    /// All seats of an engine.
+    pub fn seats(engine: ByRequests) -> Vec<ByTicket> {
+        let (seats, shared) = (engine.0.seats, Shared::of(engine));
+        (0..seats).map(|seat| ByTicket { shared: shared.clone(), seat }).collect()
     }
 }
 
 impl crate::sharing::Hand for ByMutex {
     fn ask(&mut self, ask: &Ask, buffer: u64) -> Told {
+        told(&self.shared.ask(self.seat, asked(ask, buffer)))
+    }
+
+    fn is_ready(&mut self) -> bool {
+        self.shared.is_ready(self.seat)
+    }
+}
+
+impl crate::sharing::Hand for ByTicket {
+    fn ask(&mut self, ask: &Ask, buffer: u64) -> Told {
         let request = asked(ask, buffer);
-        let mut engine = self.shared.engine.lock().expect("no thread panics");
-        let answer = engine.run(self.seat, request).0;
-        self.shared.ready.store(engine.ready(), Ordering::Release);
-        drop(engine);
+        let ticket = self.shared.next.0.fetch_add(1, Ordering::Relaxed);
+        let mut turn = 0;
+        while self.shared.called.0.load(Ordering::Acquire) != ticket {
+            pause(&mut turn);
+        }
+        let answer = self.shared.ask(self.seat, request);
+        self.shared.called.0.store(ticket.wrapping_add(1), Ordering::Release);
         told(&answer)
     }
 
     fn is_ready(&mut self) -> bool {
-        self.shared.ready.load(Ordering::Acquire) >> self.seat & 1 == 1
+        self.shared.is_ready(self.seat)
     }
 }

@@ -19,7 +19,7 @@ mod steps;
 mod table;
 mod workloads;
 
-use beside::{ByMutex, ByRequests, BySteps};
+use beside::{ByMutex, ByRequests, BySteps, ByTicket};
 use engines::{HandedOver, Library};
 use hullpippin::{Verdict, verdict_on};
 use settings::Settings;
@@ -132,10 +132,14 @@ fn threads(settings: &Settings, table: &mut Table) {
             let ran = sharing::through::<ByPost>(sharing::introduced(pairs), shape, count, settings.time());
             table.add(key("by post and serve"), Whose::Ours, lawful(ran));
             if beside::IS_THERE {
-                let hands = ByMutex::seats(sharing::introduced(pairs));
-                let ran = sharing::run(hands, shape, count, settings.time());
+                let nanoseconds = |seconds: f64, steps: u64| 1e9 * seconds / steps as f64;
+                let ran = sharing::run(ByMutex::seats(sharing::introduced(pairs)), shape, count, settings.time());
+                let by_mutex = nanoseconds(ran.seconds, ran.steps);
+                let ran = sharing::run(ByTicket::seats(sharing::introduced(pairs)), shape, count, settings.time());
+                let by_ticket = nanoseconds(ran.seconds, ran.steps);
                 for way in ["by call", "by post and serve"] {
-                    table.add(key(way), Whose::Beside, 1e9 * ran.seconds / ran.steps as f64);
+                    table.add(key(way), Whose::Beside, by_mutex);
+                    table.add(key(way), Whose::BesideByTicket, by_ticket);
                 }
             }
         }

@@ -103,7 +103,7 @@ impl From<ByPost> for Seat {
 }
 
 /// Waits a little, and now and then lets another thread have the processor.
-fn pause(turn: &mut u32) {
+pub fn pause(turn: &mut u32) {
     *turn += 1;
     if turn.is_multiple_of(64) { thread::yield_now() } else { std::hint::spin_loop() }
 }

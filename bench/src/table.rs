@@ -10,6 +10,8 @@ pub enum Whose {
     Beside,
     /// The engine beside, asked with steps that were made ahead.
     BesideBySteps,
+    /// The engine beside, whose threads take turns.
+    BesideByTicket,
 }
 
 /// A workload, at a size where it has one.
@@ -30,7 +32,7 @@ impl Key {
 /// The figures of a workload.
 pub struct Row {
     pub key: Key,
-    figures: [Vec<f64>; 3],
+    figures: [Vec<f64>; 4],
 }
 
 /// A median, and how far the figures lie apart.
@@ -101,7 +103,7 @@ impl fmt::Display for Shown<'_> {
         columns.extend(self.rates.then_some("steps/s"));
         if self.beside {
             columns.extend(["beside", "least", "most", "ratio"]);
-            columns.extend(self.rates.then_some("beside, by steps"));
+            columns.extend(self.rates.then_some(["beside, by steps", "beside, by ticket"]).into_iter().flatten());
         }
         writeln!(f, "| {} |", columns.join(" | "))?;
         writeln!(f, "|{}", " --- |".repeat(columns.len()))?;
@@ -124,7 +126,9 @@ impl Shown<'_> {
             cells.extend(told(spread(Whose::Beside)));
             let ratio = median(Whose::Ours).zip(median(Whose::Beside)).map(|(ours, theirs)| ours / theirs);
             cells.push(ratio.map_or_else(String::new, |ratio| format!("{ratio:.1}")));
-            cells.extend(self.rates.then(|| median(Whose::BesideBySteps).map_or_else(String::new, number)));
+            for whose in [Whose::BesideBySteps, Whose::BesideByTicket] {
+                cells.extend(self.rates.then(|| median(whose).map_or_else(String::new, number)));
+            }
         }
         cells
     }
