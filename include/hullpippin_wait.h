@@ -8,8 +8,10 @@
  *  - hullpippin_insist makes a request again until no other seat has the engine, by hullpippin_again, which copies its bytes only
  *    once. It calls only after a look has found the engine free, since a call that comes back takes the page's cache line from the seat
  *    at work; and it pauses longer and longer between its looks.
+ *  - hullpippin_await has the answer to what a seat has posted. It serves all seats once a look has found the engine free, and until then
+ *    looks only whether its own answer is there.
  *  - hullpippin_sleep has a thread sleep until its seat has something to read. A bell wakes it, one for all seats of a driver, which
- *    hullpippin_insist rings after each request. If you make a request otherwise, ring the bell yourself.
+ *    the two above ring after each request. If you make a request otherwise, ring the bell yourself.
  *
  *     hullpippin_bell bell = HULLPIPPIN_BELL;
  *     struct read_of { uint32_t limit; } most = { 256 };
@@ -41,25 +43,38 @@ typedef struct {
 /* A request: one call of hullpippin.h with this seat, whose status it answers. `given` is the caller's. */
 typedef uint32_t hullpippin_request_of(hullpippin_seat *seat, void *given, hullpippin_answer *answer);
 
-/* Looks that are made right after one another, then those with a turn of other threads between them; behind these a thread sleeps,
-   at first for the shortest time, and no longer than the longest. */
-enum { HULLPIPPIN_SPINS = 64, HULLPIPPIN_YIELDS = 128 };
+/* How long a pause is, in turns of a loop that rests the processor: twice as long behind each look, up to the most. One of so many pauses
+   lets other threads have the processor. Behind so many looks a thread sleeps, at first for the shortest time, and never for longer than
+   the longest. */
+enum { HULLPIPPIN_FEWEST_TURNS = 16, HULLPIPPIN_MOST_TURNS = 256, HULLPIPPIN_YIELDS = 8, HULLPIPPIN_LOOKS = 48 };
 #define HULLPIPPIN_SHORTEST_NS 2000L
 #define HULLPIPPIN_LONGEST_NS 1000000L
 
-/* Pauses before another look, the longer the more looks there were. */
+/* Rests the processor for a moment, so that another thread of the same core gets on. */
+static inline void hullpippin_rest(void)
+{
+#if defined(__x86_64__) && defined(__GNUC__)
+    __builtin_ia32_pause();
+#else
+    atomic_signal_fence(memory_order_seq_cst);
+#endif
+}
+
+/* Pauses before another look, the longer the more looks there were. Each look takes the page's cache line from the seat at work, and whoever
+   has the engine's tables in its own cache goes on fastest. So who waits looks seldom. */
 static inline void hullpippin_pause(unsigned looks)
 {
-    if (looks < HULLPIPPIN_SPINS)
-        return;
-    if (looks < HULLPIPPIN_YIELDS) {
+    if (looks >= HULLPIPPIN_LOOKS) {
+        unsigned doublings = looks - HULLPIPPIN_LOOKS;
+        long time = doublings < 9 ? HULLPIPPIN_SHORTEST_NS << doublings : HULLPIPPIN_LONGEST_NS;
+        nanosleep(&(struct timespec){ 0, time }, NULL);
+    } else if (looks % HULLPIPPIN_YIELDS == HULLPIPPIN_YIELDS - 1) {
         sched_yield();
-        return;
+    } else {
+        unsigned turns = looks < 4 ? HULLPIPPIN_FEWEST_TURNS << looks : HULLPIPPIN_MOST_TURNS;
+        while (turns--)
+            hullpippin_rest();
     }
-    unsigned doublings = looks - HULLPIPPIN_YIELDS;
-    long time = doublings < 9 ? HULLPIPPIN_SHORTEST_NS << doublings : HULLPIPPIN_LONGEST_NS;
-    struct timespec rest = { 0, time };
-    nanosleep(&rest, NULL);
 }
 
 /* Wakes those who sleep, so that each looks whether its seat is ready. */
@@ -94,6 +109,27 @@ static inline uint32_t hullpippin_insist(hullpippin_bell *bell, hullpippin_seat 
             hullpippin_look(seat, &page);
         } while (page.taken);
         status = hullpippin_again(seat, answer);
+    }
+}
+
+/* Has the answer to what the seat has posted, however long that takes, and serves all seats where none other does; rings the bell then,
+   where there is one. The status and the answer are those of hullpippin_collect, or the status of a serve that goes wrong otherwise. */
+static inline uint32_t hullpippin_await(hullpippin_bell *bell, hullpippin_seat *seat, hullpippin_answer *answer)
+{
+    for (unsigned looks = 0;; looks++) {
+        uint32_t picked, status, served = HULLPIPPIN_TAKEN;
+        hullpippin_page page;
+        hullpippin_look(seat, &page);
+        if (!page.taken)
+            served = hullpippin_serve(seat, &picked);
+        if (served == HULLPIPPIN_DONE && bell)
+            hullpippin_ring(bell);
+        status = hullpippin_collect(seat, answer);
+        if (status != HULLPIPPIN_DONE || answer->kind != HULLPIPPIN_HANDED)
+            return status;
+        if (served != HULLPIPPIN_DONE && served != HULLPIPPIN_TAKEN)
+            return served;
+        hullpippin_pause(looks);
     }
 }
 

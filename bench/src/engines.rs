@@ -2,7 +2,7 @@
 //! What an engine is for the bench, and how lists of requests are played on it.
 use crate::commands;
 use crate::steps::{Ask, Op, SEATS, Wants};
-use hullpippin::{Answer, Driver, History, Outcome, Request, Seat, Why};
+use hullpippin::{Answer, Driver, Error, History, Outcome, Request, Seat, Why};
 
 /// What a request came to.
 #[derive(Debug)]
@@ -80,20 +80,30 @@ pub fn told(outcome: &Result<Outcome, hullpippin::Error>) -> Told {
     }
 }
 
-/// Makes a request by a call of its own. The memory of its answer is the next one's, as a program in C would have it.
-pub fn call(seat: &mut Seat, ask: &Ask, buffer: u64) -> Told {
-    let outcome = match ask {
+/// What a request comes to, by a call of its own.
+pub fn outcome(seat: &mut Seat, ask: &Ask, buffer: u64) -> Result<Outcome, Error> {
+    match ask {
         Ask::Open { pid, euid, window } => seat.open(*pid, *euid, *window),
         Ask::Manager => seat.manager(),
         Ask::Write { stream, area } => seat.write(stream, area),
         Ask::Read(limit) => seat.read(*limit),
         Ask::Free => seat.write(&commands::free(buffer), &[]),
-    };
+    }
+}
+
+/// What was told. The memory of the answer is the next one's, as a program in C would have it.
+pub fn kept(seat: &mut Seat, outcome: Result<Outcome, Error>) -> Told {
     let told = told(&outcome);
     if let Ok(Outcome::Done { answer, .. }) = outcome {
         seat.reuse(answer);
     }
     told
+}
+
+/// Makes a request by a call of its own.
+pub fn call(seat: &mut Seat, ask: &Ask, buffer: u64) -> Told {
+    let outcome = outcome(seat, ask, buffer);
+    kept(seat, outcome)
 }
 
 /// A request to be posted; `free` is the command for a free.

@@ -3,7 +3,7 @@
 use crate::engines::{self, Engine, Library, Told};
 use crate::steps::{Ask, Op, SEATS, Wants};
 use crate::workloads;
-use hullpippin::{Error, Outcome, Seat};
+use hullpippin::Seat;
 use std::sync::Barrier;
 use std::thread;
 use std::time::{Duration, Instant};
@@ -20,11 +20,10 @@ pub struct Numbered {
     number: usize,
 }
 
-/// Each request is a call. Where another seat has the engine, what came back is made again once a look has found it free: a call
-/// that comes back takes the page's cache line from the seat at work.
+/// Each request is a call, which is made again, as `Seat::insist` does, while another seat has the engine.
 pub struct ByCall(Numbered);
 
-/// Each request is posted, and whoever can serves.
+/// Each request is posted, and whoever finds the engine free serves, as `Seat::awaited` does.
 pub struct ByPost(Numbered);
 
 impl From<Numbered> for ByCall {
@@ -48,15 +47,8 @@ impl Numbered {
 impl Hand for ByCall {
     fn ask(&mut self, ask: &Ask, buffer: u64) -> Told {
         let seat = &mut self.0.seat;
-        let mut told = engines::call(seat, ask, buffer);
-        let mut turn = 0;
-        while let Told::Taken = told {
-            pause(&mut turn);
-            if !seat.look().taken {
-                told = engines::told(&seat.again());
-            }
-        }
-        told
+        let outcome = seat.insist(|seat| engines::outcome(seat, ask, buffer));
+        engines::kept(seat, outcome)
     }
 
     fn is_ready(&mut self) -> bool {
@@ -68,21 +60,8 @@ impl Hand for ByPost {
     fn ask(&mut self, ask: &Ask, buffer: u64) -> Told {
         let seat = &mut self.0.seat;
         let free = crate::commands::free(buffer);
-        if let Err(error) = seat.post(engines::posted(ask, &free)) {
-            return Told::Otherwise(format!("{error:?}"));
-        }
-        let mut turn = 0;
-        loop {
-            match seat.collect() {
-                Ok(Outcome::Handed) => (),
-                outcome => return engines::told(&outcome),
-            }
-            match seat.serve() {
-                Err(Error::Taken) => pause(&mut turn),
-                Ok(_) => (),
-                Err(error) => return Told::Otherwise(format!("{error:?}")),
-            }
-        }
+        let outcome = seat.post(engines::posted(ask, &free)).and_then(|()| seat.awaited());
+        engines::kept(seat, outcome)
     }
 
     fn is_ready(&mut self) -> bool {

@@ -5,8 +5,8 @@
  *
  *     waiting [CALLS]
  *
- * Each client makes so many calls (200), one after the other, with a number that the server replies with one more. Prints how many calls
- * were answered in all, and how many replies were wrong.
+ * Each client makes so many calls (200), one after the other, with a number that the server replies with one more. Every other one makes
+ * its writes itself, the others hand theirs over. Prints how many calls were answered in all, and how many replies were wrong.
  */
 #include "hullpippin.h"
 #include "hullpippin_wait.h"
@@ -96,6 +96,21 @@ static hullpippin_answer ask(struct part *part, hullpippin_request_of *request, 
     return answer;
 }
 
+/* Has a stream run, by a call or handed over. */
+static void write_stream(struct part *part, struct stream *stream)
+{
+    hullpippin_request request = { .kind = HULLPIPPIN_WRITE };
+    hullpippin_answer answer;
+    if (part->number % 2) {
+        ask(part, write_once, stream, HULLPIPPIN_WROTE);
+        return;
+    }
+    uint32_t status = hullpippin_post(&part->seat, &request, stream->bytes, stream->size, stream->area, sizeof stream->area);
+    if (status != HULLPIPPIN_DONE || hullpippin_await(&bell, &part->seat, &answer) != HULLPIPPIN_DONE
+        || answer.kind != HULLPIPPIN_WROTE || answer.stop)
+        fail("what was handed over has another answer");
+}
+
 /* Sleeps until a call or a reply is there, and reads it: the number that it carries, and its buffer. */
 static uint32_t receive(struct part *part, uint32_t wanted, uint64_t *buffer)
 {
@@ -126,7 +141,7 @@ static void *serve(void *given)
         uint32_t number = receive(part, HULLPIPPIN_BR_TRANSACTION, &buffer);
         append_free(&stream, buffer);
         append_call(&stream, HULLPIPPIN_BC_REPLY, number + 1);
-        ask(part, write_once, &stream, HULLPIPPIN_WROTE);
+        write_stream(part, &stream);
         part->calls++;
     }
     return NULL;
@@ -139,10 +154,10 @@ static void *call(void *given)
         struct stream stream = { .size = 0 }, after = { .size = 0 };
         uint64_t buffer;
         append_call(&stream, HULLPIPPIN_BC_TRANSACTION, 1000 * part->number + i);
-        ask(part, write_once, &stream, HULLPIPPIN_WROTE);
+        write_stream(part, &stream);
         part->wrong += receive(part, HULLPIPPIN_BR_REPLY, &buffer) != 1000 * part->number + i + 1;
         append_free(&after, buffer);
-        ask(part, write_once, &after, HULLPIPPIN_WROTE);
+        write_stream(part, &after);
         part->calls++;
     }
     return NULL;

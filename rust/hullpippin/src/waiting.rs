@@ -5,22 +5,27 @@ use std::time::Duration;
 
 use crate::{Error, Outcome, Seat, Why};
 
-/// Looks that are made right after one another, and up to which other threads have a turn between two.
-const SPINS: u32 = 64;
-const YIELDS: u32 = 128;
-/// Behind these a thread sleeps, at first for the shortest time, and never for longer than the longest.
+/// How long a pause is, in turns of a loop that rests the processor: twice as long behind each look, up to the most.
+const FEWEST_TURNS: u32 = 16;
+const MOST_TURNS: u32 = 256;
+/// One of so many pauses lets other threads have the processor.
+const YIELDS: u32 = 8;
+/// Behind so many looks a thread sleeps, at first for the shortest time, and never for longer than the longest.
+const LOOKS: u32 = 48;
 const SHORTEST: Duration = Duration::from_micros(2);
 const LONGEST: Duration = Duration::from_millis(1);
 
-/// Pauses before another look, the longer the more looks there were.
+/// Pauses before another look, the longer the more looks there were. Each look takes the page's cache line from the seat at work, and
+/// whoever has the engine's tables in its own cache goes on fastest. So who waits looks seldom.
 fn pause(looks: u32) {
-    if looks < SPINS {
-        std::hint::spin_loop();
-    } else if looks < YIELDS {
+    if looks >= LOOKS {
+        let doublings = (looks - LOOKS).min(9);
+        thread::sleep((SHORTEST * (1 << doublings)).min(LONGEST));
+    } else if looks % YIELDS == YIELDS - 1 {
         thread::yield_now();
     } else {
-        let doublings = (looks - YIELDS).min(9);
-        thread::sleep((SHORTEST * (1 << doublings)).min(LONGEST));
+        let turns = (FEWEST_TURNS << looks.min(4)).min(MOST_TURNS);
+        (0..turns).for_each(|_| std::hint::spin_loop());
     }
 }
 
@@ -55,5 +60,35 @@ impl Seat {
             outcome = self.again()?;
         }
         Ok(outcome)
+    }
+
+    /// The answer to what this seat has handed over, however long that takes. Where no other seat has the engine, it serves all seats; until
+    /// then it looks only whether its own answer is there.
+    ///
+    /// ```
+    /// use hullpippin::{Answer, Driver, Request};
+    ///
+    /// fn main() -> Result<(), hullpippin::Error> {
+    ///     let mut driver = Driver::new(2)?;
+    ///     let mut seat = driver.take_seat()?;
+    ///     seat.post(Request::Open { pid: 100, euid: 1000, window: 4096 })?;
+    ///     assert_eq!(seat.awaited()?.answer(), Some(Answer::Opened));
+    ///     Ok(())
+    /// }
+    /// ```
+    pub fn awaited(&mut self) -> Result<Outcome, Error> {
+        let mut looks = 0_u32;
+        loop {
+            let served = if self.look().taken { Err(Error::Taken) } else { self.serve() };
+            let outcome = self.collect()?;
+            if !matches!(outcome, Outcome::Handed) {
+                return Ok(outcome);
+            }
+            match served {
+                Ok(_) | Err(Error::Taken) => pause(looks),
+                Err(error) => return Err(error),
+            }
+            looks = looks.saturating_add(1);
+        }
     }
 }

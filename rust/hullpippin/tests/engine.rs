@@ -269,6 +269,30 @@ fn who_insists_is_answered() {
     assert_eq!(verdict_on(&journal), Ok(Verdict::Lawful(8 * TIMES)));
 }
 
+/// Eight threads hand over what they want, and whoever finds the engine free serves all of them: each is answered.
+#[test]
+fn who_hands_over_is_answered() {
+    const TIMES: usize = 200;
+    let mut driver = Driver::new(8).expect("a driver");
+    let seats: Vec<Seat> = (0..8).map(|_| driver.take_seat().expect("a seat")).collect();
+    let asks = |mut seat: Seat| {
+        seat.post(Request::Open { pid: 100 + seat.number(), euid: 1000, window: 4096 }).expect("a post");
+        assert_eq!(seat.awaited().expect("an answer").answer(), Some(Answer::Opened));
+        for _ in 1..TIMES {
+            seat.post(Request::Read { limit: 256 }).expect("a post");
+            assert_eq!(seat.awaited().expect("an answer").answer(), Some(Answer::Refused(Fault::Again)));
+        }
+        assert_eq!(seat.awaited(), Err(Error::NotWaiting));
+        seat
+    };
+    let threads: Vec<_> = seats.into_iter().map(|seat| thread::spawn(move || asks(seat))).collect();
+    for seat in threads {
+        driver.return_seat(seat.join().expect("no thread panics")).expect("the driver's own");
+    }
+    let journal = driver.finish().expect("all seats are back").journal().expect("a journal");
+    assert_eq!(verdict_on(&journal), Ok(Verdict::Lawful(8 * TIMES)));
+}
+
 /// The manager is sent an object one-way and keeps it; it is called and replies.
 fn recorded() -> Vec<u8> {
     let mut driver = Driver::new(2).expect("a driver");
