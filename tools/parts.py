@@ -30,6 +30,7 @@ LAST = f"{LOGS}/last.json"
 CALLERS = f"{ROOT}/clients/out/packages"
 PLAYER = os.path.relpath(proved.PLAYER, ROOT)
 TRIES = 3
+ANEW = "--anew"
 # seconds for what an ended part has printed to arrive
 LAST_WORDS = 5
 # on a busy machine a part may take longer by the clock, but no more than so many times
@@ -61,11 +62,17 @@ class Part:
         return passed, max(failed, 1) if lacks else failed
 
 
+def of_nothing(anew):
+    """The word by which `rt ci` takes nothing from an earlier gate. A kit that keeps nothing doesn't know it."""
+    said = subprocess.run(["rt", "help"], stdin=subprocess.DEVNULL, capture_output=True, text=True).stdout if anew and shutil.which("rt") else ""
+    return [ANEW] if ANEW in said else []
+
+
 def whole(anew):
     """All parts, in their order. The edits, which take the prover, leave one processor to the tests that run beside them."""
     of_gate, of_archive, of_edits = ("gate",), ("archive",), str(max(1, len(os.sched_getaffinity(0)) - 1))
     return [
-        Part("gate", ["tools/gate-time", "rt", "ci", *(["--anew"] if anew else [])], r"^(?P<passed>\d+) passed, (?P<failed>\d+) failed$", 170),
+        Part("gate", ["tools/gate-time", "rt", "ci", *of_nothing(anew)], r"^(?P<passed>\d+) passed, (?P<failed>\d+) failed$", 170),
         Part("documents", ["tools/check-docs"], r"^[1-9]\d* words and paths in backticks, (?P<failed>\d+) not found$", 10, beside=True),
         Part("manners", ["tools/manners"], r"^manners: (?P<passed>\d+) passed, (?P<failed>\d+) failed$", 15, beside=True),
         Part("edits", ["tools/edits", "--jobs", of_edits], r"^edits: (?P<passed>\d+) refused, (?P<failed>\d+) failed$", 120, of_gate, beside=True),
