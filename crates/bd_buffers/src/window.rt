@@ -127,6 +127,7 @@ impl Window {
     /// Where a buffer for data and offsets of these sizes in bytes would begin: at the least multiple of 8 with
     /// room for both, each rounded up to a multiple of 8, and for 8 bytes at least. `NoRoom` where there is none;
     /// then `OverBudget` where one-way buffers would take more than half of the window.
+    #[inline(always)]
     pub fn start_for(&self, one_way: bool, data_size: u64, offsets_size: u64) -> Result<u32, Cause>
         ensures computed { WindowTells (Stands self.now) result
             (λ size bs. start_for size bs one_way (needed data_size offsets_size)) }
@@ -159,6 +160,7 @@ impl Window {
 
     /// Makes room for one more buffer of a size at a place. The window stays as it was, also on an `Err`.
     #[tactic(auto, unfolding(crate::specs::Stands::CanHold))]
+    #[inline(always)]
     pub fn reserve(&mut self, start: u32, size: u32) -> Result<(), AllocError>
         ensures stands { WindowMakes (Stands self.old) (Stands self.new) (λ bs. bs) }
         ensures can_take { (one_way : Bool) (size start : ℕ) → CanHold self.old one_way size start
@@ -182,6 +184,7 @@ impl Window {
     }
 
     /// Takes the newest buffer in, at a place that the window can take it at. Takes no memory.
+    #[inline(always)]
     pub fn commit(&mut self, buffer: Lent<'_>)
         requires room { HasBufferRoom self.old buffer.start buffer.size }
         requires newest { All (λ b. b.made < buffer.made) self.old.buffers }

@@ -107,6 +107,7 @@ impl Windows {
     /// Where a buffer for data and offsets of these sizes in bytes would begin in the window of a process.
     /// `NoRoom` where there is no room or no such process; `OverBudget` where one-way buffers would take more than
     /// half of the window.
+    #[inline(always)]
     pub fn start_for(
         &self,
         p: u64,
@@ -140,6 +141,7 @@ impl Windows {
     }
 
     /// Makes room for one more buffer of a size at a place in the window of a process. All stays as it was, also on an `Err`.
+    #[inline(always)]
     pub fn reserve_buffer(&mut self, p: u64, start: u32, size: u32) -> Result<(), AllocError>
         ensures stands { Makes (StandsFor self.old) (StandsFor self.new) (λ s. s) }
         ensures can_add { (q : ℕ) (one_way : Bool) (size start : ℕ) → CanAdd self.old q one_way size start
@@ -156,6 +158,7 @@ impl Windows {
     }
 
     /// Takes a buffer into its receiver's window, at a place that it can take it at. Takes no memory.
+    #[inline(always)]
     pub fn add(&mut self, buffer: Lent<'_>)
         requires room { HasBufferRoom self.old buffer.receiver buffer.start buffer.size }
         requires sized { buffer.size ≡ needed (length buffer.bytes) (length buffer.offsets) }
@@ -244,6 +247,7 @@ impl Windows {
     }
 
     /// Ends the buffer made there.
+    #[inline(always)]
     pub fn free(&mut self, made: u64)
         ensures { Makes (StandsIn self.old) (StandsIn self.new) (λ s. without_buffer s made) }
     {
@@ -253,6 +257,7 @@ impl Windows {
     }
 
     /// Marks the buffer that is handed over by reading these work items, if any.
+    #[inline(always)]
     pub fn hand_out(&mut self, made: Option<u64>)
         ensures { (s : Space) (seat : ℕ) (ws : List Work) → StandsIn self.old s
             → made ≡ option_map made_of_buffer (buffer_taken s ws) → StandsIn self.new (read_by s seat ws) }

@@ -83,6 +83,7 @@ impl CallTable {
     ghost use Rattle.bd_calls.specs.{Told.{KeepsTold, ReachesFew}, Room.{Uses, UsesNothing, nothing, turn_room, work_room}};
 
     /// The one-way call of a new buffer comes in, if it is one.
+    #[inline(always)]
     pub fn add_turn(&mut self, turn: Option<Turn>)
         requires { 1 ≤ turn_room self.old }
         ensures stands { (s : Space) (b : Buffer) → StandsFor self.old s → turn ≡ spec.turn_of b
@@ -106,6 +107,7 @@ impl CallTable {
     }
 
     /// The oldest one-way call on an object becomes due, made at this place, unless somebody was told of it before.
+    #[inline(always)]
     pub fn ripen_on(&mut self, place: u64, object: Identity)
         requires { 1 ≤ work_room self.old }
         ensures stands { MakesAt place (StandsFor self.old) (StandsFor self.new) (local.ripen_of object) }

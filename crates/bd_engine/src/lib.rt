@@ -6,6 +6,7 @@ mod engine;
 mod entering;
 mod live;
 mod looks;
+mod memory;
 mod narrow;
 mod parcel;
 mod reached;

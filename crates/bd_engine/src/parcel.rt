@@ -4,13 +4,11 @@ ghost use Rattle.std.specs.Prelude.{◌≡◌, ◌+◌, nat_le, length, take, dr
 ghost use Rattle.bd_space.specs.Writes.{parcel_of, parcel_for, step_of_command};
 ghost use Rattle.bd_space.specs.declared.step.Step.TheVariants as step;
 
+use crate::memory::keep;
 use bd_space::{Bytes, Entry, Parcel, Step, StepAnswer};
 use bd_uapi::{Command, TransactionData};
 use std::alloc::{AllocError, Global};
 use std::mem::replace;
-
-// The memory of a larger part isn't kept.
-const KEPT: usize = 65536;
 
 // Memory for the two parts of a parcel. It is kept from command to command, so that most ask for none.
 #[derive(Drop)]
@@ -44,15 +42,6 @@ fn copied(room: &mut Vec<u8>, bytes: &[u8]) -> Result<Bytes, AllocError>
     copy.clear();
     copy.extend_from_slice(bytes)?;
     Ok(Bytes::new(copy))
-}
-
-// The memory of these bytes is kept, unless it is much.
-#[inline(always)]
-fn keep(room: &mut Vec<u8>, bytes: Bytes) {
-    let memory = bytes.into_vec();
-    if memory.capacity() <= KEPT {
-        *room = memory;
-    }
 }
 
 impl ParcelRoom {

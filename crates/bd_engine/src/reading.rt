@@ -5,14 +5,12 @@ ghost use Rattle.bd_ways.specs.Words as words;
 ghost use Rattle.bd_space.specs.Runs.{answered};
 ghost use Rattle.bd_step.specs.{Plain.{IsBrief, IsGot}, declared.answer.Brief.TheVariants.{Got}};
 
+use crate::memory::kept;
 use crate::run::answered;
-use bd_space::{Answer, Bytes, Entry, Step, StepAnswer};
+use bd_space::{Answer, Bytes, Entry, Notes, Step, StepAnswer};
 use bd_step::Brief;
 use std::alloc::Global;
-use std::mem::{replace, swap};
-
-// The memory of what has more bytes isn't kept.
-const KEPT: usize = 65536;
+use std::mem::replace;
 
 /// The entry of the latest step, which stays from step to step: nothing of it is cleared for the next one. What was read and is given
 /// up stands there as its answer, or as the spare one, so that its memory is used by the next reads.
@@ -71,19 +69,18 @@ impl Reading {
         requires { brief ≡ Got → IsGot self.old.entry.answer }
         ensures { (answer : words.StepAnswer) → IsBrief brief answer → (brief ≡ Got → self.old.entry.answer ≡ answer) → told.new ≡ answered answer }
     {
-        *told = answered(brief, replace(&mut self.entry.answer, StepAnswer::Exited));
-        if is_got(&self.spare) {
-            swap(&mut self.entry.answer, &mut self.spare);
-        }
+        let spare = replace(&mut self.spare, StepAnswer::Exited);
+        *told = answered(brief, replace(&mut self.entry.answer, spare));
     }
 
-    // Takes the bytes with their memory.
+    // The bytes, in their memory unless that is much. None are left.
     #[inline(always)]
     fn take(&self, bytes: &mut Bytes) -> Bytes {
-        replace(bytes, Bytes::new(Vec::new(self.alloc)))
+        kept(replace(bytes, Bytes::new(Vec::new(self.alloc))))
     }
 
-    /// Keeps the memory of what was read, unless it is much, where that was told and something else is to be told in its place.
+    /// Keeps the memory of what was read, where that was told and something else is to be told in its place: from now on that is the
+    /// answer to a write, which needs none.
     #[inline(always)]
     pub(crate) fn keep(&mut self, told: &mut Answer) {
         let Answer::Got {
@@ -94,14 +91,22 @@ impl Reading {
         else {
             return;
         };
-        if stream.len() > KEPT || bytes.len() > KEPT || offsets.len() > KEPT {
-            return;
-        }
         let memory = StepAnswer::Got {
             stream: self.take(stream),
             bytes: self.take(bytes),
             offsets: self.take(offsets),
         };
+        *told = Answer::Wrote {
+            consumed: 0,
+            notes: Notes::new(Vec::new(self.alloc)),
+            stop: None,
+        };
+        self.put_memory(memory);
+    }
+
+    // The next read uses this memory, or the one after it.
+    #[inline(always)]
+    fn put_memory(&mut self, memory: StepAnswer) {
         if is_got(&self.entry.answer) {
             self.spare = memory;
         } else {

@@ -208,8 +208,8 @@ impl Progress {
     fn tell(&mut self, going: Going, told: &mut Answer, reading: &mut Reading)
         ensures { told.new ≡ ended self.old going }
     {
+        reading.keep(told);
         if !self.notes.is_empty() || !is_unnoted(told) {
-            reading.keep(told);
             *told = self.answer(going);
             return;
         }

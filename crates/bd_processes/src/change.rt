@@ -21,6 +21,7 @@ impl ProcessTable {
         ensures uses { process_room self.old ≤ process_room self.new + 1 }
     {
         self.by_pid.insert(pid_key(process.pid), process.made);
+        self.guesses.note(process.made, self.list.len());
         self.list.push_reserved(process);
     }
 
@@ -33,6 +34,7 @@ impl ProcessTable {
     {
         if let Some(i) = self.index_of(made) {
             let process = self.list.remove(i);
+            self.guesses.note_from(self.list.as_slice(), i);
             self.by_pid.remove(pid_key(process.pid));
         }
     }

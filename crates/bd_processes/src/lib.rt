@@ -2,6 +2,7 @@
 #![tactic(auto)]
 
 mod change;
+mod guesses;
 mod list;
 mod look;
 mod table;

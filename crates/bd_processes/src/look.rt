@@ -20,15 +20,16 @@ impl ProcessTable {
             (All (λ q. (q.made == made) ≡ false) processes)
             (λ i. (d : Process) → (slice_index_or processes i d).made ≡ made) }
     {
-        list::index_of(self.list.as_slice(), made)
+        list::index_at(self.list.as_slice(), self.guesses.of(made), made)
     }
 
     /// The process with this identity.
+    #[inline(always)]
     pub fn made_at(&self, made: u64) -> Option<Process>
         ensures found { Tells (ProcessesAre self.now) result (λ processes. seats.process_in processes made) }
         ensures pid { IfSome result (λ q. is_pid q.pid ≡ true) }
     {
-        list::made_at(self.list.as_slice(), made)
+        list::made_at(self.list.as_slice(), self.guesses.of(made), made)
     }
 
     /// The process with this pid.

@@ -4,6 +4,7 @@ ghost use Rattle.std.specs.{Prelude.{◌≡◌, ◌≤◌, [], true, OnOk, OnErr
 ghost use Rattle.bd_space.specs.Steps.{is_pid};
 ghost use Rattle.bd_processes.specs.Keys as keys;
 
+use crate::guesses::Guesses;
 use bd_keys::{WordKey, WordMap};
 use bd_space::Process;
 use std::alloc::{AllocError, Global};
@@ -15,6 +16,8 @@ pub struct ProcessTable {
     pub(crate) list: Vec<Process>,
     // Each one's identity, by its pid. Peers choose the pids.
     pub(crate) by_pid: WordMap<u64>,
+    // Where it may stand in the list, which takes no search.
+    pub(crate) guesses: Guesses,
     // No pid is out of range.
     ghost pids_fit: { list_all (λ q. is_pid q.pid) list.items ≡ true },
 }
@@ -39,6 +42,7 @@ impl ProcessTable {
         ProcessTable {
             list: Vec::new(alloc),
             by_pid: WordMap::new(alloc),
+            guesses: Guesses::new(),
         }
     }
 

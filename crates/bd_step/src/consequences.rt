@@ -10,6 +10,7 @@ use bd_space::Identity;
 
 impl Tables {
     /// The oldest one-way call on the object becomes due if it is ripe, where there is an object.
+    #[inline(always)]
     pub(crate) fn ripen_next(&mut self, object: Option<Identity>)
         requires { 1 ≤ work_room self.old.calls }
         ensures stands { MakesWithin self.old self.new (ripen_next object) }

@@ -397,6 +397,7 @@ impl Tables {
     }
 
     // Takes in the objects, the references and the names.
+    #[inline(always)]
     fn deliver_objects(&mut self, delivery: &Delivery<'_>) -> Result<(), NumbersFull>
         requires { object_rooms.HasRoom self.old.objects
             (object_rooms.delivery_room delivery.now.receiver.made delivery.now.sending.made delivery.now.sending.items) }

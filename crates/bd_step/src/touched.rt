@@ -128,6 +128,7 @@ impl Tables {
 
     // Of these objects those go that nothing keeps, and the notices that have nothing left to say. Returns whether an owner may
     // be to be told of one.
+    #[inline(always)]
     fn remove_each_unkept(&mut self, touched: &[Identity]) -> bool
         ensures nobody { result ≡ false → (s : Space) → Within self.old s
             → IsNobodyDue (shed_of (is_among touched.now) s) touched.now }
@@ -186,6 +187,7 @@ impl Tables {
 
     /// What follows at the process's names of these objects, given in the order in which they were made, and then at the
     /// objects themselves.
+    #[inline(always)]
     pub(crate) fn follow_among(&mut self, p: u64, touched: &[Identity])
         requires in_order { Pairs NotLater touched.now }
         requires room { length touched.now ≤ work_room self.old.calls }

@@ -87,6 +87,10 @@ impl TurnTable {
     pub fn oldest_on(&self, object: Identity) -> Option<Turn>
         ensures { Tells self.now result (λ l. find (λ t. same t.target object) l) }
     {
+        // Mostly there is none at all, which takes no look for the object's list.
+        if self.objects.chains.len() == 0 {
+            return None;
+        }
         self.objects.front(object)
     }
 

@@ -8,5 +8,5 @@ pub returns-clause-found : goal.returns-clause-found
 returns-clause-found c = λ ps h.
     let made = c.args.made in
     let same = c.as_slice.ensures.value ∙ h.items_are in
-    subst (λ xs. MatchOption c.index_of.result (All (λ (q : Process). (q.made == made) ≡ false) xs) (λ i. (d : Process) → (get_or xs i d).made ≡ made))
-    same (c.index_of.ensures.found (subst IsRising (sym same) h.rising))
+    subst (λ xs. MatchOption c.index_at.result (All (λ (q : Process). (q.made == made) ≡ false) xs) (λ i. (d : Process) → (get_or xs i d).made ≡ made))
+    same (c.index_at.ensures.found (subst IsRising (sym same) h.rising))
