@@ -188,6 +188,8 @@ impl<T: Copy> Numbered<T> {
     }
 
     /// Takes out what the process has under a number, for which no memory is needed.
+    // Put into its callers, which have no use for the value.
+    #[inline(always)]
     pub fn remove(&mut self, p: u64, n: u32) -> Option<T>
         ensures gone { result ≡ value_at self.old p n }
         ensures at { (q m : ℕ) → value_at self.new q m

@@ -258,6 +258,7 @@ impl Names {
     }
 
     /// Takes out the process's name of the object, which has this number.
+    #[inline(always)]
     pub(crate) fn remove_at(&mut self, p: u64, o: Identity, n: u32)
         requires { number_of self.old p o ≡ Some n }
         ensures named { (q m : ℕ) → named_by self.new q m

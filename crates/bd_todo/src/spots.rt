@@ -155,7 +155,7 @@ impl Spots {
     }
 
     // Where the latest was put that is looked up so, by its hash.
-    #[inline(never)]
+    #[inline(always)]
     fn hashed(&self, key: Sought) -> Option<Spot>
         ensures { result ≡ get_by (same_sought key) self.now.spots }
     {
