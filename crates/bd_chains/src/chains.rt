@@ -270,6 +270,7 @@ impl<T: Copy> Chains<T> {
     }
 
     /// Puts a value behind all others on a list, where there is room, and answers its slot.
+    #[inline(always)]
     pub fn push(&mut self, list: usize, value: T, counted: bool) -> usize
         requires { 1 ≤ item_room self.old }
         ensures stands { (rs : List (Row T)) → Holds self.old rs → is_open self.old list ≡ true
@@ -300,6 +301,8 @@ impl<T: Copy> Chains<T> {
     }
 
     /// The value in a slot goes, if there is one.
+    // Put into its callers, most of which have no use for the value.
+    #[inline(always)]
     pub fn remove(&mut self, x: usize) -> Option<T>
         ensures gone { result ≡ value_at self.old x }
         ensures stands { Makes (Holds self.old) (Holds self.new) (drop_key x) }

@@ -45,6 +45,7 @@ impl<N: Numbering, T: Copy> Lists<N, T> {
     }
 
     // The number of a list, which is opened where it isn't.
+    #[inline(always)]
     fn number_for(&mut self, key: N::Key) -> usize
         requires open { 1 ≤ list_room self.old.chains }
         requires room { 0 < N.room self.old.numbers }
@@ -64,6 +65,8 @@ impl<N: Numbering, T: Copy> Lists<N, T> {
     }
 
     /// A value comes last on the list of its key. Answers its slot.
+    // Put into its callers, which then write the value where it stands.
+    #[inline(always)]
     pub fn push(&mut self, key: N::Key, value: T, counted: bool) -> usize
         requires { 1 ≤ lists_room self.old.chains (N.room self.old.numbers) }
         ensures stands { (f : T → N.Key) (c : T → Bool) (rs : List (Row T)) → f value ≡ key → counted ≡ c value

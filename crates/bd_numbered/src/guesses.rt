@@ -9,8 +9,8 @@ const FEW: usize = 1024;
 const SECTION: u64 = 0x9e37_79b9_7f4a_7c15;
 
 /// Two guesses for each key where what it leads to stands: the latest of the keys that share one of a few, and one of many, twice
-/// as many as there are things: of the many first where there are too many for the few. Whoever asks compares what stands there, and searches where it is another's: so no contract
-/// speaks of a guess.
+/// as many as there are things: of the many first where there are too many for the few. Whoever asks compares what stands there, and
+/// searches where it is another's: so no contract speaks of a guess.
 #[derive(Drop)]
 pub struct Guesses {
     few: [u32; FEW],
@@ -38,13 +38,14 @@ impl Guesses {
         self.many.len() <= 2 * FEW
     }
 
-    /// Where it may stand.
+    /// Where it may stand by the few guesses.
     #[inline(always)]
     pub fn of(&self, key: u64) -> u32 {
         self.few[key as usize % FEW]
     }
 
-    /// Where it may stand, if not there: to be asked for where there are more things than a few.
+    /// Where it may stand by the many.
+    #[inline(always)]
     pub fn among(&self, key: u64) -> u32 {
         match self.many.get(self.place_of(key)) {
             Some(slot) => *slot,

@@ -46,27 +46,31 @@ impl<T: Copy> Numbered<T> {
     pub fn slot_of(&self, p: u64) -> Option<usize>
         ensures { result ≡ slot_at self.now p }
     {
-        if self.guesses.are_few() {
-            let guess = self.guesses.of(p) as usize;
-            if made_at(&self.rows, guess) == Some(p) {
-                return Some(guess);
-            }
+        let guess = if self.guesses.are_few() {
+            self.guesses.of(p)
+        } else {
+            self.guesses.among(p)
+        };
+        let guess = guess as usize;
+        if made_at(&self.rows, guess) == Some(p) {
+            return Some(guess);
         }
         self.slot_among(p)
     }
 
-    // The same, of many rows.
+    // The same, where it is guessed wrongly.
     #[inline(never)]
     fn slot_among(&self, p: u64) -> Option<usize>
         ensures { result ≡ slot_at self.now p }
     {
-        let other = self.guesses.among(p) as usize;
+        let other = if self.guesses.are_few() {
+            self.guesses.among(p)
+        } else {
+            self.guesses.of(p)
+        };
+        let other = other as usize;
         if made_at(&self.rows, other) == Some(p) {
             return Some(other);
-        }
-        let few = self.guesses.of(p) as usize;
-        if made_at(&self.rows, few) == Some(p) {
-            return Some(few);
         }
         self.slots.get(&p).copied()
     }
@@ -184,6 +188,8 @@ impl<T: Copy> Numbered<T> {
     }
 
     /// Takes out what the process has under a number, for which no memory is needed.
+    // Put into its callers, which have no use for the value.
+    #[inline(always)]
     pub fn remove(&mut self, p: u64, n: u32) -> Option<T>
         ensures gone { result ≡ value_at self.old p n }
         ensures at { (q m : ℕ) → value_at self.new q m

@@ -145,6 +145,7 @@ impl<T: Copy> Row<T> {
     }
 
     /// Takes out what stands under a number.
+    #[inline(always)]
     pub(crate) fn remove(&mut self, n: u32) -> Option<T>
         ensures made { self.new.made ≡ self.old.made }
         ensures gone { result ≡ value_of self.old n }

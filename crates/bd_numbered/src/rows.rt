@@ -101,6 +101,7 @@ pub(crate) fn set_in<T: Copy>(rows: &mut Slab<Row<T>>, k: usize, n: u32, value: 
 }
 
 /// Takes out what the row has under a number.
+#[inline(always)]
 pub(crate) fn remove_in<T: Copy>(rows: &mut Slab<Row<T>>, k: usize, n: u32) -> Option<T>
     ensures gone { result ≡ values_in rows.old k n }
     ensures made { (j : ℕ) → made_in rows.new j ≡ made_in rows.old j }

@@ -106,6 +106,7 @@ impl ObjectTable {
     }
 
     /// The live owner that is to be told of the object. Takes the live processes.
+    #[inline(always)]
     pub fn owner_to_tell(&self, processes: &ProcessTable, o: Identity) -> Option<u64>
         ensures { TellsWhere (StandsFor self.now) (HasProcesses processes.now) result
             (λ s. owner_due s (object_in s.objects o)) }

@@ -152,6 +152,7 @@ impl<T: Copy> Places<T> {
     }
 
     /// Takes out what stands at a place, for which no memory is needed.
+    #[inline(always)]
     pub fn remove(&mut self, i: usize) -> Option<T>
         ensures gone { result ≡ at self.old i }
         ensures at { (j : ℕ) → at self.new j ≡ (if i == j then None else at self.old j) }

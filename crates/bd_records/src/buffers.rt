@@ -67,6 +67,7 @@ impl Buffers {
     }
 
     // The reference, which lies there, comes last on both lists.
+    #[inline(always)]
     fn insert(&mut self, berth: Berth, r: Reference)
         requires { 1 ≤ buffer_room self.old }
         ensures stands { (l : List declared.Reference) → refer.buffer_of_holder r.holder ≡ Some berth.buffer
@@ -99,6 +100,7 @@ impl Buffers {
     }
 
     /// Takes in a reference, which comes last on its buffer's list, and on its window's, if it lies in a buffer.
+    #[inline(always)]
     pub fn push(&mut self, r: Reference)
         requires { 1 ≤ buffer_room self.old }
         ensures stands { Makes (BuffersAre self.old) (BuffersAre self.new) (λ l. l ++ r ∷ []) }

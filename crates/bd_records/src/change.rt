@@ -31,6 +31,7 @@ impl Records {
     }
 
     /// The object that the process knows by this pointer as its own, if there is one.
+    #[inline(always)]
     pub fn own_with_ptr(&self, p: u64, ptr: u64) -> Option<space::Object>
         ensures { (objects : List Object) (l : List Reference) → RecordsAre self.now objects l → result ≡ refer.own_in objects p ptr }
     {

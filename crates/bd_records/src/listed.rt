@@ -23,6 +23,7 @@ pub fn named_object(names: &Names, p: u64, n: u32) -> Option<Identity>
 }
 
 /// By which number the process names the object.
+#[inline(always)]
 pub fn name_number(names: &Names, p: u64, o: Identity) -> Option<u32>
     ensures { Tells (NamesAre names.now) result (λ l. names_of.number_in l p o) }
 {

@@ -13,6 +13,7 @@ use crate::counting::name_turned;
 use crate::keys::{remove_numbers, reserve_numbers};
 use crate::number_key::{ObjectKey, insert_number, number_in, remove_number};
 use crate::numbers::NumbersFull;
+use crate::objects::{guess_of, other_guess_of};
 use crate::row::{NameRow, NameSpot};
 use bd_keys::tall;
 use bd_numbered::{Guesses, Numbered};
@@ -103,30 +104,25 @@ impl Names {
     pub fn number_of(&self, p: u64, o: Identity) -> Option<u32>
         ensures { result ≡ number_of self.now p o }
     {
-        if self.guesses.are_few() {
-            let guess = self.guesses.of(key_of(p, o));
-            if self.named(p, guess) == Some(o) {
-                return Some(guess);
-            }
-        }
+        // Told first: most are asked for since they are new, and a guess would be of another.
         if tall(o.place, o.index) > self.latest {
             return None;
+        }
+        let guess = guess_of(&self.guesses, key_of(p, o));
+        if self.named(p, guess) == Some(o) {
+            return Some(guess);
         }
         self.number_among(p, o)
     }
 
-    // The same, of many names.
+    // The same, where it is guessed wrongly.
     #[inline(never)]
     fn number_among(&self, p: u64, o: Identity) -> Option<u32>
         ensures { result ≡ number_of self.now p o }
     {
-        let other = self.guesses.among(key_of(p, o));
+        let other = other_guess_of(&self.guesses, key_of(p, o));
         if self.named(p, other) == Some(o) {
             return Some(other);
-        }
-        let few = self.guesses.of(key_of(p, o));
-        if self.named(p, few) == Some(o) {
-            return Some(few);
         }
         number_in(&self.numbers, p, o)
     }
@@ -162,25 +158,20 @@ impl Names {
         ensures row { IfSome result (λ s. value_at self.now.rows p s.number ≡ Some s.row) }
         ensures none { IfNone result (number_of self.now p o ≡ None) }
     {
-        if self.guesses.are_few() {
-            if let Some(s) = self.spot_at(p, o, self.guesses.of(key_of(p, o))) {
-                return Some(s);
-            }
+        if let Some(s) = self.spot_at(p, o, guess_of(&self.guesses, key_of(p, o))) {
+            return Some(s);
         }
         self.spot_among(p, o)
     }
 
-    // The same, where it isn't guessed among a few.
+    // The same, where it is guessed wrongly.
     #[inline(never)]
     fn spot_among(&self, p: u64, o: Identity) -> Option<NameSpot>
         ensures number { IfSome result (λ s. number_of self.now p o ≡ Some s.number) }
         ensures row { IfSome result (λ s. value_at self.now.rows p s.number ≡ Some s.row) }
         ensures none { IfNone result (number_of self.now p o ≡ None) }
     {
-        if let Some(s) = self.spot_at(p, o, self.guesses.among(key_of(p, o))) {
-            return Some(s);
-        }
-        let number = number_in(&self.numbers, p, o)?;
+        let number = self.number_among(p, o)?;
         match self.rows.get(p, number) {
             Some(row) => Some(NameSpot { number, row }),
             None => unreachable!(),
@@ -267,6 +258,7 @@ impl Names {
     }
 
     /// Takes out the process's name of the object, which has this number.
+    #[inline(always)]
     pub(crate) fn remove_at(&mut self, p: u64, o: Identity, n: u32)
         requires { number_of self.old p o ≡ Some n }
         ensures named { (q m : ℕ) → named_by self.new q m

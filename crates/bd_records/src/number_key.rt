@@ -61,6 +61,7 @@ pub(crate) fn insert_number(numbers: &mut HashMap<ObjectKey, u32>, p: u64, o: Id
 }
 
 /// The object has no number of the process from now on.
+#[inline(always)]
 pub(crate) fn remove_number(numbers: &mut HashMap<ObjectKey, u32>, p: u64, o: Identity)
     ensures at { (q : ℕ) (x : declared.Identity) → number_at numbers.new q x
         ≡ (if (p == q) && same o x then None else number_at numbers.old q x) }

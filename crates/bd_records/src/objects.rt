@@ -27,6 +27,26 @@ fn key_of(o: Identity) -> u64 {
     o.place.wrapping_add(o.index as u64)
 }
 
+/// Where it most likely stands.
+#[inline(always)]
+pub(crate) fn guess_of(guesses: &Guesses, key: u64) -> u32 {
+    if guesses.are_few() {
+        guesses.of(key)
+    } else {
+        guesses.among(key)
+    }
+}
+
+/// Where else it may stand.
+#[inline(always)]
+pub(crate) fn other_guess_of(guesses: &Guesses, key: u64) -> u32 {
+    if guesses.are_few() {
+        guesses.among(key)
+    } else {
+        guesses.of(key)
+    }
+}
+
 // It stands there: what is guessed wrongly, since other keys share the guess, is guessed rightly from now on.
 #[inline(always)]
 fn note_again(guesses: &mut Guesses, o: Identity, k: usize) {
@@ -84,11 +104,9 @@ impl Objects {
     pub fn slot_of(&self, o: Identity) -> Option<usize>
         ensures { result ≡ slot_at self.now o }
     {
-        if self.guesses.are_few() {
-            let guess = self.guesses.of(key_of(o)) as usize;
-            if id_at(&self.rows, guess) == Some(o) {
-                return Some(guess);
-            }
+        let guess = guess_of(&self.guesses, key_of(o)) as usize;
+        if id_at(&self.rows, guess) == Some(o) {
+            return Some(guess);
         }
         if tall(o.place, o.index) > self.latest {
             return None;
@@ -107,18 +125,14 @@ impl Objects {
         self.slot_of(o)
     }
 
-    // The same, of many objects.
+    // The same, where it is guessed wrongly.
     #[inline(never)]
     fn slot_among(&self, o: Identity) -> Option<usize>
         ensures { result ≡ slot_at self.now o }
     {
-        let other = self.guesses.among(key_of(o)) as usize;
+        let other = other_guess_of(&self.guesses, key_of(o)) as usize;
         if id_at(&self.rows, other) == Some(o) {
             return Some(other);
-        }
-        let few = self.guesses.of(key_of(o)) as usize;
-        if id_at(&self.rows, few) == Some(o) {
-            return Some(few);
         }
         slot_in(&self.slots, o)
     }

@@ -173,6 +173,8 @@ impl Records {
     }
 
     /// Takes in a reference, of which there is a record for each counter (`IsHomed`).
+    // Put into its callers, which know whose it is.
+    #[inline(always)]
     pub fn push(&mut self, r: Reference)
         requires { 1 ≤ reference_room self.old }
         ensures stands { (objects : List spaced.Object) (l : List Reference) → IsHomed self.old objects r

@@ -59,6 +59,8 @@ fn turn_user(names: &mut Names, r: Reference, more: bool)
 }
 
 /// Counts the reference, or no longer, in the records of its object and of the name that it gives.
+// Put into its callers, most of which know whose the reference is.
+#[inline(always)]
 pub(crate) fn turn(objects: &mut Objects, names: &mut Names, r: Reference, more: bool)
     ensures objects { (x : declared.Identity) → row_at objects.new x
         ≡ (if same r.object x then option_map (spec.turned more r) (row_at objects.old x) else row_at objects.old x) }

@@ -15,6 +15,11 @@ spread (Notice p i) = pair p i
 spread (Call b) = b + 2 ^ 104
 spread (Death n) = n + 2 ^ 105
 
+-- of a notice its object as a number, of all else 0
+abbrev pub noticed : Sought → ℕ
+noticed (Notice p i) = pair p i
+noticed _ = 0
+
 abbrev pub sought_of : WorkKind → Option Sought
 sought_of (work.Notice o) = Some (Notice o.place o.index)
 sought_of (work.Call b) = Some (Call b)

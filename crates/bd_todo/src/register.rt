@@ -69,6 +69,7 @@ impl Register {
     }
 
     /// A work item went.
+    #[inline(always)]
     pub fn remove(&mut self, work: Work)
         ensures stands { (todo left : List Work) → ((p : Work → Bool) → count_by p todo ≡ (if p work then 1 else 0) + count_by p left)
             → Registered self.old todo → Registered self.new left }

@@ -1,13 +1,13 @@
 //! Work items, counted by what they are looked up by.
 
-ghost use Rattle.std.specs.Prelude.{◌≡◌, ◌≤◌, ◌<◌, ◌+◌, ◌-◌, min, if◌then◌else◌, nat_lt, OnOk, OnErr};
+ghost use Rattle.std.specs.Prelude.{◌≡◌, ◌≤◌, ◌<◌, ◌+◌, ◌-◌, min, true, Some, None, option_map, unwrap_or, if◌then◌else◌, nat_lt, OnOk, OnErr};
 ghost use Rattle.std.specs.Option.{ForSome};
 ghost use Rattle.std.specs.Cmp.Rules.{hashing};
 ghost use Rattle.std.specs.Hash as fed;
 ghost use Rattle.std.{specs.HashMap.{spare, get_by}, proofs.Common.{rules}};
 ghost use Rattle.bd_todo.specs.declared.spots.Sought as declared;
 ghost use Rattle.bd_todo.specs.declared.spots.Sought.TheVariants as sought;
-ghost use Rattle.bd_todo.specs.Spots.{same_sought, spread, sought_of, is_sought, is_key};
+ghost use Rattle.bd_todo.specs.Spots.{same_sought, spread, noticed, sought_of, is_sought, is_key};
 
 use bd_keys::tall;
 use bd_space::{Identity, WorkKind};
@@ -32,6 +32,17 @@ impl Sought {
             Sought::Notice { place, index } => tall(place, index),
             Sought::Call { buffer } => u128::from(buffer) + 0x100_0000_0000_0000_0000_0000_0000,
             Sought::Death { made } => u128::from(made) + 0x200_0000_0000_0000_0000_0000_0000,
+        }
+    }
+
+    // Of a notice its object as a number, which rises from one object to the next; of all else 0.
+    #[inline(always)]
+    fn noticed(self) -> u128
+        ensures { result ≡ noticed self }
+    {
+        match self {
+            Sought::Notice { place, index } => tall(place, index),
+            _ => 0,
         }
     }
 }
@@ -60,8 +71,14 @@ pub struct Spot {
 #[derive(Debug, Drop)]
 pub struct Spots {
     pub(crate) spots: HashMap<Sought, Spot>,
+    // No notice that is there is of a later object, as a number: that of a new one takes no hash.
+    pub(crate) latest: u128,
+    // No two are looked up the same, as it always is: what goes then takes one hash.
+    pub(crate) alone: bool,
     // What has gone leaves nothing in the map.
     ghost left: { (k : declared.Sought) → ForSome (get_by (same_sought k) spots) (λ s. 0 < s.count) },
+    ghost not_later: { (k : declared.Sought) → latest < noticed k → get_by (same_sought k) spots ≡ None },
+    ghost ones: { alone ≡ true → (k : declared.Sought) → ForSome (get_by (same_sought k) spots) (λ s. s.count ≡ 1) },
 }
 
 /// The notice of the object.
@@ -93,6 +110,26 @@ pub fn is_sought(key: Sought, kind: WorkKind) -> bool
     sought_of(kind) == Some(key)
 }
 
+// One more is looked up so, in this slot: how many there are.
+#[inline(always)]
+fn count_one(spots: &mut HashMap<Sought, Spot>, key: Sought, slot: usize) -> u64
+    requires { 0 < spare spots.old }
+    ensures put { (k : declared.Sought) → get_by (same_sought k) spots.new
+        ≡ (if same_sought key k then Some (record { count = result; slot = slot }) else get_by (same_sought k) spots.old) }
+    ensures count { result ≡ min (unwrap_or (option_map (λ s. s.count) (get_by (same_sought key) spots.old)) 0 + 1) 18446744073709551615 }
+    ensures uses { spare spots.old ≤ spare spots.new + 1 }
+{
+    match spots.entry(key) {
+        Ok(entry) => {
+            let spot = entry.or_insert(Spot { count: 0, slot });
+            let count = spot.count.saturating_add(1);
+            *spot = Spot { count, slot };
+            count
+        }
+        Err(_) => unreachable!(),
+    }
+}
+
 impl Spots {
     ghost use Rattle.bd_todo.specs.SpotCounts.{count_at};
 
@@ -102,6 +139,8 @@ impl Spots {
     {
         Spots {
             spots: HashMap::new(alloc),
+            latest: 0,
+            alone: true,
         }
     }
 
@@ -116,7 +155,7 @@ impl Spots {
     }
 
     // Where the latest was put that is looked up so, by its hash.
-    #[inline(never)]
+    #[inline(always)]
     fn hashed(&self, key: Sought) -> Option<Spot>
         ensures { result ≡ get_by (same_sought key) self.now.spots }
     {
@@ -128,8 +167,11 @@ impl Spots {
     pub fn spot(&self, key: Sought) -> Option<Spot>
         ensures { result ≡ get_by (same_sought key) self.now.spots }
     {
-        // Mostly there are none at all, which takes no hash.
+        // Mostly there are none at all, or the notice is a new object's, which takes no hash.
         if self.spots.is_empty() {
+            return None;
+        }
+        if key.noticed() > self.latest {
             return None;
         }
         self.hashed(key)
@@ -153,14 +195,9 @@ impl Spots {
         ensures uses { spare self.old.spots ≤ spare self.new.spots + 1 }
     {
         if let Some(key) = key {
-            match self.spots.entry(key) {
-                Ok(entry) => {
-                    let spot = entry.or_insert(Spot { count: 0, slot });
-                    let count = spot.count.saturating_add(1);
-                    *spot = Spot { count, slot };
-                }
-                Err(_) => unreachable!(),
-            }
+            let count = count_one(&mut self.spots, key, slot);
+            self.latest = self.latest.max(key.noticed());
+            self.alone = self.alone && count == 1;
         }
     }
 
@@ -171,6 +208,10 @@ impl Spots {
         ensures uses { spare self.old.spots ≤ spare self.new.spots }
     {
         if let Some(key) = key {
+            if self.alone {
+                let _only = self.spots.remove(&key);
+                return;
+            }
             match self.spots.get_mut(&key) {
                 Some(spot) if spot.count > 1 => spot.count -= 1,
                 Some(_) => {

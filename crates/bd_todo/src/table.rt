@@ -93,6 +93,7 @@ impl WorkTable {
     }
 
     // The work item in a slot goes, if there is one.
+    #[inline(always)]
     fn remove_at(&mut self, x: usize)
         ensures rows { tables.Makes (RowsAre self.old) (RowsAre self.new) (λ rs. drop_key x rs) }
         ensures uses { work_room self.old ≤ work_room self.new }
@@ -186,6 +187,7 @@ impl WorkTable {
     }
 
     // The slot of the work item that is looked up so, where there is just one: the latest noted, if that is still there.
+    #[inline(always)]
     fn only(&self, key: Sought) -> Option<usize>
         ensures { IfSome result (λ x. (words.is_some_and (work_at self.now.queues x) (λ w. spots.is_sought key w.kind) ≡ true)
             × (counts.found_at self.now.register.spots key ≡ 1)) }
@@ -199,6 +201,7 @@ impl WorkTable {
     }
 
     // What is looked up so goes, from whatever list: without a walk, where it is one.
+    #[inline(always)]
     fn withdraw(&mut self, key: Sought)
         ensures stands { Makes self.old self.new (λ l. filter (λ w. not (spots.is_sought key w.kind)) l) }
         ensures uses { work_room self.old ≤ work_room self.new }
