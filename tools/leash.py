@@ -68,6 +68,16 @@ def on_signals(handle):
             signal.signal(it, handle)
 
 
+def ends_in_order():
+    """Has a signal end this program by `sys.exit`, so that what it has begun and made goes with it. No second signal stops that, as
+    `timeout` sends one to all of a group."""
+    def end(number, _):
+        on_signals(signal.SIG_IGN)
+        sys.exit(128 + number)
+
+    on_signals(end)
+
+
 def status_of(ended):
     """The status that a shell would tell of what has ended so."""
     return os.WEXITSTATUS(ended) if os.WIFEXITED(ended) else 128 + os.WTERMSIG(ended)

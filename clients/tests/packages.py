@@ -60,6 +60,8 @@ class Apt:
         settings = {"Dir::Etc::sourcelist": f"{folder}/sources.list", "Dir::Etc::sourceparts": "/nonexistent",
                     "Dir::State": folder, "Dir::State::lists": f"{folder}/lists", "Dir::State::status": f"{folder}/status",
                     "Dir::Cache": f"{folder}/cache", "APT::Install-Recommends": "false", "APT::Sandbox::User": "root",
+                    # (so that no command reads the lists anew, or unpacks them, as a container's settings have it)
+                    "Dir::Cache::pkgcache": "pkgcache.bin", "Dir::Cache::srcpkgcache": "srcpkgcache.bin", "Acquire::GzipIndexes": "false",
                     "Acquire::Languages": "none", "Acquire::Retries": "2", "APT::Update::Error-Mode": "any"}
         self.options = [word for key, value in settings.items() for word in ("-o", f"{key}={value}")]
 
