@@ -31,9 +31,11 @@ impl Guesses {
         self.indexes[made as usize % GUESSES] = (index % 4294967296) as u32;
     }
 
-    /// Those at this index and behind it stand there now.
+    /// Those at this index and behind it stand there now. The last few are noted, as there are no more guesses: so an end takes no
+    /// longer the more processes there are.
     pub(crate) fn note_from(&mut self, processes: &[Process], from: usize) {
-        for i in from..processes.len() {
+        let last = processes.len().saturating_sub(GUESSES);
+        for i in from.max(last)..processes.len() {
             self.note(processes[i].made, i);
         }
     }
