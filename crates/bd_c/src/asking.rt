@@ -32,19 +32,19 @@ fn make_place(latest: &mut Option<Outcome>)
 {
     match latest {
         Some(Outcome::Done { .. }) => {}
-        _ => *latest = new_place(),
+        _ => put_place(latest),
     }
 }
 
 #[inline(never)]
-fn new_place() -> Option<Outcome>
-    ensures { IsPlace result }
+fn put_place(latest: &mut Option<Outcome>)
+    ensures { IsPlace latest.new }
 {
-    Some(Outcome::Done {
+    *latest = Some(Outcome::Done {
         answer: Answer::Set,
         from: 0,
         to: 0,
-    })
+    });
 }
 
 // These bytes in the memory that is there, for which it has room. None is left.

@@ -11,6 +11,8 @@ mod hand_over;
 #[cfg(test)]
 mod live;
 #[cfg(test)]
+mod memory;
+#[cfg(test)]
 mod parcel;
 #[cfg(test)]
 mod player;
