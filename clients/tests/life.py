@@ -13,7 +13,7 @@ import time
 from contextlib import contextmanager
 
 from builds import CLIENTS
-from stage import BUSY, comes, expect, tail, with_word
+from stage import BUSY, comes, expect, listens, tail, with_word
 from suite import test
 
 # users that no machine has, with whom root plays: others than those of a run beside this one, since a user has one folder in /tmp
@@ -65,10 +65,10 @@ def daemon(build, words, path, **how):
     with subprocess.Popen([build.daemon, *words], stdin=subprocess.DEVNULL, stderr=subprocess.PIPE, text=True, **how) as process:
         try:
             until = time.monotonic() + SECONDS
-            while not os.path.exists(path) and process.poll() is None and time.monotonic() < until:
+            while not listens(path) and process.poll() is None and time.monotonic() < until:
                 time.sleep(0.01)
             said = tail(process.stderr.read()) if process.poll() is not None else "it runs"
-            expect(process.poll() is None and os.path.exists(path), f"no daemon at {path}: {said}")
+            expect(process.poll() is None and listens(path), f"no daemon at {path}: {said}")
             yield process
             process.send_signal(signal.SIGTERM)
             expect(process.wait(SECONDS) == 0, f"the daemon ended with {process.returncode}")

@@ -18,7 +18,7 @@ from collections import Counter, namedtuple
 from journals import Journal, Who
 from raw_tests import DEVICE
 from recordings import contents, neighbours
-from stage import BUSY, Failed, Stage, comes, expect, tail
+from stage import BUSY, Failed, Stage, comes, expect, listens, tail
 from suite import figures, test
 
 # what `--state` prints last, of an account, of a user or of a process
@@ -497,7 +497,7 @@ def ring_users(build):
             words = [programs[0], "--socket", path, "--mode", "666"]
             with subprocess.Popen(words, stderr=subprocess.PIPE, **as_user(owner)) as daemon:
                 try:
-                    comes(lambda: os.path.exists(path))
+                    comes(lambda: listens(path))
                     told[owner] = [look(programs, path, user) for user in (0, NOBODY, OTHER)]
                 finally:
                     daemon.terminate()

@@ -83,6 +83,12 @@ class Process:
             self.process.wait()
 
 
+def listens(path):
+    """Whether a client may come there: from when there is a socket it takes a moment."""
+    with socket.socket(socket.AF_UNIX, socket.SOCK_SEQPACKET) as client:
+        return client.connect_ex(path) == 0
+
+
 def comes(condition, seconds=10):
     """Whether something comes to be so, which is waited for."""
     end = time.monotonic() + BUSY * seconds
@@ -155,18 +161,13 @@ class Stage:
     def __enter__(self):
         try:
             end = time.monotonic() + BUSY * 10
-            while not (os.path.exists(self.socket) if self.is_bare else self.listens()):
+            while not (os.path.exists(self.socket) if self.is_bare else listens(self.socket)):
                 expect(self.daemon.runs() and time.monotonic() < end, f"no daemon: {tail(self.daemon.printed())}")
                 time.sleep(0.005)
         except BaseException:
             self.clear()
             raise
         return self
-
-    def listens(self):
-        """Whether a client may come: from when there is a socket it takes a moment."""
-        with socket.socket(socket.AF_UNIX, socket.SOCK_SEQPACKET) as client:
-            return client.connect_ex(self.socket) == 0
 
     def __exit__(self, kind, error, trace):
         try:
