@@ -60,8 +60,11 @@ fn much_memory_of_an_answer_is_not_kept(rt: HostRuntime) -> Result<(), Fail> {
     holds(&rt, "a process", is_made(&mut engine, 1, open(200, 2000)));
     holds(&rt, "a call", is_made(&mut engine, 1, call(rt.alloc())));
     let mut told = large(rt.alloc())?;
-    let set = Request::SetSpam { on: false };
-    holds(&rt, "set", is_run(&mut engine, 1, &set, &mut told));
+    let nothing = Request::Write {
+        stream: Bytes::new(Vec::new(rt.alloc())),
+        area: Bytes::new(Vec::new(rt.alloc())),
+    };
+    holds(&rt, "written", is_run(&mut engine, 1, &nothing, &mut told));
     let mut read = Answer::Set;
     let limit = Request::Read { limit: 256 };
     holds(&rt, "read", is_run(&mut engine, 1, &limit, &mut read));
