@@ -366,7 +366,7 @@ def main():
         lacks.append(f"without {', '.join(it.name for it in parts if it.network) or 'a network'}")
         parts = [it for it in parts if not it.network]
         os.environ["HULLPIPPIN_OFFLINE"] = "1"
-    signal.signal(signal.SIGTERM, lambda *_: sys.exit(143))  # so that what runs is ended
+    leash.ends_in_order()  # (what runs is ended)
     missing = list(fetched(parts, given.offline))
     for it in missing:
         print(f"check: {it} can't be had, so nothing is run")
