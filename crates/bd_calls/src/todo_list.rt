@@ -202,10 +202,9 @@ impl CallTable {
         ensures uses { UsesNothing self.old self.new }
         ensures told { KeepsTold self.old self.new }
     {
-        if self.todo.has_notice(object) {
+        if self.todo.withdraw_notice(object) {
             self.ready.forget_all();
             self.marks.all = true;
-            self.todo.withdraw_notice(object);
         }
     }
 

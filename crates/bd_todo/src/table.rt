@@ -1,7 +1,7 @@
 //! The table: its room, its changes and what it tells.
 #![tactic(auto, unfolding(crate::specs::Stands::work_room))]
 
-ghost use Rattle.std.specs.Prelude.{Bool, true, false, List, ◌≡◌, ◌&&◌, ◌+◌, ◌≤◌, ◌==◌, [], count_by, not, filter, Some, OnOk, OnErr, IfSome};
+ghost use Rattle.std.specs.Prelude.{Bool, true, false, List, ◌≡◌, ◌&&◌, ◌+◌, ◌≤◌, ◌==◌, [], count_by, nat_lt, not, filter, Some, OnOk, OnErr};
 ghost use Rattle.std.specs.List.{list_any};
 ghost use Rattle.bd_keys.specs.Tables as tables;
 ghost use Rattle.bd_keys.specs.Tables.{AnswersBy};
@@ -15,7 +15,7 @@ ghost use Rattle.bd_todo.specs.FoundCounts as counts;
 use crate::heads::Heads;
 use crate::queues::{Queues, count_at, front};
 use crate::register::Register;
-use crate::spots::{Sought, is_sought, sought_notice};
+use crate::spots::{Sought, Spot, is_sought, sought_notice};
 use crate::work::{is_item, keeps_from_calling};
 use bd_chains::{Lists, Numbering};
 use bd_space::{Identity, Origin, TodoList, Work, WorkKind};
@@ -186,39 +186,45 @@ impl WorkTable {
         }
     }
 
-    // The slot of the work item that is looked up so, where there is just one: the latest noted, if that is still there.
+    // What is looked up so goes, so many of which the latest was put there: without a walk, where it is one.
     #[inline(always)]
-    fn only(&self, key: Sought) -> Option<usize>
-        ensures { IfSome result (λ x. (words.is_some_and (work_at self.now.queues x) (λ w. spots.is_sought key w.kind) ≡ true)
-            × (counts.found_at self.now.register.spots key ≡ 1)) }
-    {
-        let spot = self.register.spots.spot(key)?;
-        if spot.count == 1 && self.is_sought_at(spot.slot, key) {
-            Some(spot.slot)
-        } else {
-            None
-        }
-    }
-
-    // What is looked up so goes, from whatever list: without a walk, where it is one.
-    #[inline(always)]
-    fn withdraw(&mut self, key: Sought)
+    fn withdraw_from(&mut self, key: Sought, spot: Spot)
+        requires { spot.count ≡ counts.found_at self.old.register.spots key }
         ensures stands { Makes self.old self.new (λ l. filter (λ w. not (spots.is_sought key w.kind)) l) }
         ensures uses { work_room self.old ≤ work_room self.new }
     {
-        if let Some(x) = self.only(key) {
-            self.remove_at(x);
-        } else if self.register.spots.has(key) {
+        if spot.count == 1 && self.is_sought_at(spot.slot, key) {
+            self.remove_at(spot.slot);
+        } else {
             self.retain(|w| !is_sought(key, w.kind));
         }
     }
 
-    /// The notice of an object goes.
-    pub fn withdraw_notice(&mut self, object: Identity)
+    // What is looked up so goes, from whatever list. Answers whether anything was.
+    #[inline(always)]
+    fn withdraw(&mut self, key: Sought) -> bool
+        ensures had { result ≡ nat_lt 0 (counts.found_at self.old.register.spots key) }
+        ensures same { result ≡ false → self.new ≡ self.old }
+        ensures stands { Makes self.old self.new (λ l. filter (λ w. not (spots.is_sought key w.kind)) l) }
+        ensures uses { work_room self.old ≤ work_room self.new }
+    {
+        match self.register.spots.spot(key) {
+            Some(spot) if spot.count > 0 => {
+                self.withdraw_from(key, spot);
+                true
+            }
+            _ => false,
+        }
+    }
+
+    /// The notice of an object goes. Answers whether there was one.
+    pub fn withdraw_notice(&mut self, object: Identity) -> bool
+        ensures had { Tells self.old result (λ l. notices.has_notice_in l object) }
+        ensures same { result ≡ false → self.new ≡ self.old }
         ensures stands { Makes self.old self.new (λ l. filter (λ w. not (spec.is_notice object w.kind)) l) }
         ensures uses { work_room self.old ≤ work_room self.new }
     {
-        self.withdraw(sought_notice(object));
+        self.withdraw(sought_notice(object))
     }
 
     /// The work item of a death notification goes.
@@ -226,7 +232,7 @@ impl WorkTable {
         ensures stands { Makes self.old self.new (λ l. filter (λ w. not (words.is_some_and (spec.death_of w.kind) (λ n. n == made))) l) }
         ensures uses { work_room self.old ≤ work_room self.new }
     {
-        self.withdraw(Sought::Death { made });
+        let _had = self.withdraw(Sought::Death { made });
     }
 
     /// Only the work items of the kinds for which `f` answers `true` stay.
