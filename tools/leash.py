@@ -41,10 +41,10 @@ def parents():
     return found
 
 
-def below(top):
-    """The processes that this one has begun, and those that these have."""
+def below(top, of=None):
+    """The processes that this one has begun, and those that these have; by each one's parent, if that is known already."""
     children = {}
-    for pid, parent in parents().items():
+    for pid, parent in (parents() if of is None else of).items():
         children.setdefault(parent, []).append(pid)
     found = [top]
     for it in found:  # (which grows meanwhile)

@@ -227,10 +227,17 @@ class Lanes:
             return Result(part, 0, 1, why="not run: stopped")
         return Result(part, 0, 1, why=f"not run: {below[0]} failed") if below else run(part, self.folder)
 
+    def told(self, part):
+        """The same where something goes wrong outside of its command: then it has failed, since the other lane may wait for it."""
+        try:
+            return self.result(part)
+        except Exception as error:
+            return Result(part, 0, 1, why=f"not run: {error}")
+
     def go(self, beside):
         """Runs the parts of one lane."""
         for part in (it for it in self.parts if it.beside == beside):
-            made = self.result(part)
+            made = self.told(part)
             with self.changed:
                 self.results[part.name] = made
                 self.changed.notify_all()
@@ -302,7 +309,7 @@ def fetched(parts, offline):
 def keep(results, wall):
     """Writes down what the whole check came to, for --write."""
     about = {"commit": proved.commit(), "date": datetime.date.today().isoformat(), "processors": len(os.sched_getaffinity(0)), "wall": wall,
-             "parts": [vars(it) for it in results]}
+             "kit": proved.kit(), "parts": [vars(it) for it in results]}
     with open(LAST, "w", encoding="utf-8") as file:
         json.dump(about, file, indent=1)
 
@@ -330,7 +337,7 @@ def told(about):
 
 
 def write():
-    """Puts what the last whole check came to into README.md and docs/CHECKS.md, and its table into docs/FIGURES.md."""
+    """Puts what the last whole check came to, and its kit, into README.md and docs/CHECKS.md, and its table into docs/FIGURES.md."""
     with open(LAST, encoding="utf-8") as file:
         about = json.load(file)
     counts, took, table = told(about)
@@ -339,6 +346,7 @@ def write():
                         ("docs/FIGURES.md", [f"{whose}, on {about['processors']} processors:", "", *table])):
         replaced(name, marks, "\n".join(["<!-- check -->", *lines, "<!-- /check -->"]))
     replaced("README.md", re.compile(r"^    (?:N|\d+) passed, \d+ failed.*$", re.M), f"    {counts}        # commit {about['commit'][:8]}: {took}")
+    replaced("README.md", proved.KIT, f"`{about['kit']}`")
 
 
 def arguments(names):

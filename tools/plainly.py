@@ -1,5 +1,6 @@
 # SPDX-License-Identifier: Apache-2.0 OR MIT
-"""Has a program that imports this end in one line, in place of a traceback, where another program or a file that it needs is missing.
+"""Has a program that imports this end in one line, in place of a traceback, where another program or a file that it needs is missing; and
+`must`, by which it runs a command and ends where that fails.
 
 What a user can mend by installing or building something is told so: a program that can't be started, a file that isn't there, a command that
 failed. Where who read what it prints has gone, as `head` does, it says nothing. All else is a fault of ours and keeps its traceback.
@@ -30,6 +31,14 @@ def told(error):
             return f"{name} isn't here{': ' if name in HINTS else ''}{HINTS.get(name, '')}"
         return f"{name}: {error.strerror}"
     return None
+
+
+def must(words, **how):
+    """What a command prints, which has to go well: else this program ends with it."""
+    done = subprocess.run(words, stdin=subprocess.DEVNULL, stdout=subprocess.PIPE, stderr=subprocess.STDOUT, text=True, errors="replace", **how)
+    if done.returncode:
+        sys.exit(f"{os.path.basename(sys.argv[0])}: {' '.join(words[:3])}: status {done.returncode}\n{done.stdout}")
+    return done.stdout
 
 
 def unread():

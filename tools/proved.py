@@ -8,6 +8,7 @@ known, nor of an archive over other libraries than the gate's. Records keep out 
 import glob
 import hashlib
 import os
+import re
 import subprocess
 
 import crates
@@ -16,6 +17,8 @@ ROOT = crates.ROOT
 GATE = f"{ROOT}/out/gate"
 LIBRARY = f"{crates.folder('bd_c')}/out/libhullpippin.a"
 PLAYER = f"{crates.folder('bd_play')}/out/bd_play"
+# How README.md names the kit, and its logic: as `rt version` does.
+KIT = re.compile(r"`rattle-kit-\S+ logic ([0-9a-f]+)`")
 # What isn't proved, of a crate's folder.
 ASIDE = ("out", "edits", "must-fail")
 

@@ -1,19 +1,13 @@
 # SPDX-License-Identifier: Apache-2.0 OR MIT
 """Roots of Debian's suites, in which what we give away is tried as a newcomer finds it."""
+import functools
 import subprocess
-import sys
+
+import plainly
 
 # Seconds that one command may take.
 SECONDS = 1800
-
-
-def must(words):
-    """What a command prints, which has to go well."""
-    done = subprocess.run(words, stdin=subprocess.DEVNULL, stdout=subprocess.PIPE, stderr=subprocess.STDOUT, text=True,
-                          timeout=SECONDS)
-    if done.returncode:
-        sys.exit(f"{sys.argv[0].rpartition('/')[2]}: {' '.join(words[:3])}: status {done.returncode}\n{done.stdout}")
-    return done.stdout
+must = functools.partial(plainly.must, timeout=SECONDS)
 
 
 def of_machine():

@@ -123,8 +123,7 @@ static int take_lock(const char *path)
     return -1;
 }
 
-/* Removes the socket at our address: our own, or that of a daemon that was killed, since we have the lock. Any other file
-   stays, and the address can't be had. */
+/* Removes a socket of ours, or of a daemon that was killed, since we have the lock. Any other file stays. */
 static void remove_socket(const char *path)
 {
     struct stat stat;
@@ -232,29 +231,56 @@ int listener_lock(struct daemon *daemon, const char *path)
     return listener->lock < 0 ? LISTENER_FAILED : LISTENER_OK;
 }
 
-/* The mode is the socket's from the beginning: nobody comes before. */
-static bool bind_at(const struct listener *listener, int fd)
+/* Until a socket listens its name is a hidden one beside its address, so that nobody is refused there. False where that is too long. */
+static bool hidden_beside(const struct sockaddr_un *address, struct sockaddr_un *hidden)
 {
-    const char *path = listener->address.sun_path;
+    const char *slash = strrchr(address->sun_path, '/'), *name = slash ? slash + 1 : address->sun_path;
+    *hidden = (struct sockaddr_un){.sun_family = AF_UNIX};
+    int size = snprintf(hidden->sun_path, sizeof hidden->sun_path, "%.*s.%s", (int)(name - address->sun_path), address->sun_path, name);
+    return size < (int)sizeof hidden->sun_path;
+}
+
+/* The mode is the socket's from the beginning: nobody comes before. */
+static bool bind_at(const struct listener *listener, int fd, const struct sockaddr_un *address)
+{
     mode_t before = listener->mode == NO_MODE ? 0 : umask(~listener->mode & 0777);
-    bool is_bound = bind(fd, (const struct sockaddr *)&listener->address, sizeof listener->address) == 0;
+    bool is_bound = bind(fd, (const struct sockaddr *)address, sizeof *address) == 0;
     int error = errno;
     if (listener->mode != NO_MODE)
         umask(before);
     errno = error;
-    return is_bound && (listener->group == NO_GROUP || lchown(path, (uid_t)-1, listener->group) == 0);
+    return is_bound && (listener->group == NO_GROUP || lchown(address->sun_path, (uid_t)-1, listener->group) == 0);
+}
+
+/* Gives what listens our address. A daemon that was killed has left its socket there, since we have the lock, and that gives way. Any
+   other file stays, and the address can't be had. */
+static bool comes_to(const char *hidden, const char *path)
+{
+    struct stat stat;
+    if (lstat(path, &stat) == 0 && !S_ISSOCK(stat.st_mode))
+        return errno = EADDRINUSE, false;
+    return rename(hidden, path) == 0;
 }
 
 /* Listens at our address, where we don't yet. */
 static bool listens_at_last(struct listener *listener)
 {
     struct watch *watch = &listener->watch;
+    struct sockaddr_un hidden;
     watch->ready = listener_ready;
     if (watch->fd >= 0)
         return true;
-    remove_socket(listener->address.sun_path);
+    if (!hidden_beside(&listener->address, &hidden))
+        return errno = ENAMETOOLONG, false;
+    remove_socket(hidden.sun_path);
     watch->fd = socket(AF_UNIX, SOCK_SEQPACKET | SOCK_CLOEXEC | SOCK_NONBLOCK, 0);
-    return watch->fd >= 0 && bind_at(listener, watch->fd) && listen(watch->fd, BACKLOG) == 0;
+    bool is_there = watch->fd >= 0 && bind_at(listener, watch->fd, &hidden) && listen(watch->fd, BACKLOG) == 0
+                    && comes_to(hidden.sun_path, listener->address.sun_path);
+    int error = errno;
+    if (!is_there)
+        remove_socket(hidden.sun_path);
+    errno = error;
+    return is_there;
 }
 
 bool listener_begin(struct daemon *daemon)

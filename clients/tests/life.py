@@ -36,7 +36,7 @@ class Copied:
     """The daemon, the library and a client where other users may run them too, as they perhaps can't where they were built."""
 
     def __init__(self, build, where):
-        self.environment, self.versions = build.environment, f"{where}/versions"
+        self.environment, self.versions, self.short = build.environment, f"{where}/versions", build.short
         self.daemon, library = f"{where}/hullpippind", f"{where}/{os.path.basename(build.library)}"
         for old, new in ((build.daemon, self.daemon), (build.library, library), (build.raw("versions"), self.versions)):
             shutil.copy(old, new)
@@ -280,6 +280,24 @@ def in_order(build, where):
         shutil.rmtree(own, ignore_errors=True)
 
 
+def listening_first(build, where):
+    """A socket has its name from when the daemon listens on, so that nobody is refused who sees it. A killed daemon's gives way; any other
+    file stays."""
+    path = f"{where}/late"
+    env = environment(build, HULLPIPPIN_SOCKET=path)
+    with subprocess.Popen([build.short], env={**env, "SLOW_TO_LISTEN": "1"}, stdin=subprocess.DEVNULL, stderr=subprocess.DEVNULL) as process:
+        try:
+            expect(comes(lambda: os.path.exists(path)), "a daemon that is slow to listen has no socket")
+            expect(listens(path), "who sees the daemon's socket is refused")
+        finally:
+            process.kill()
+    with daemon(build, [], path, env=env):
+        expect(reaches(build, env=env), "the socket of a killed daemon is in the way")
+    with open(path, "w", encoding="ascii"):
+        end(build, [], "Address already in use", env=env)
+    expect(sorted(os.listdir(where)) == ["late", "late.lock"] and not os.stat(path).st_size, f"{os.listdir(where)} is left")
+
+
 @test("raw addresses")
 def addresses(build):
     """Where a daemon listens, and who may come there."""
@@ -288,13 +306,13 @@ def addresses(build):
         copied = Copied(build, programs)
         with folder() as where:
             own_folders(copied, where)
-        for part in (who_may_come, given, untaken, *([] if os.geteuid() else [of_others, of_liars, in_order])):
+        for part in (who_may_come, given, listening_first, untaken, *([] if os.geteuid() else [of_others, of_liars, in_order])):
             with folder() as where:
                 os.chmod(where, 0o711)
                 part(copied, where)
     if os.geteuid():
-        return "own folders, modes, given sockets; of other users nothing was seen: only root can be others"
-    return "own folders, other users' folders, locks and sockets, links, modes, given sockets"
+        return "own folders, modes, given sockets, names of sockets; of other users nothing was seen: only root can be others"
+    return "own folders, other users' folders, locks and sockets, links, modes, given sockets, names of sockets"
 
 
 def run(words, **how):

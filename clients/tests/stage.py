@@ -84,7 +84,7 @@ class Process:
 
 
 def listens(path):
-    """Whether a client may come there: from when there is a socket it takes a moment."""
+    """Whether a client may come there."""
     with socket.socket(socket.AF_UNIX, socket.SOCK_SEQPACKET) as client:
         return client.connect_ex(path) == 0
 

@@ -6,7 +6,7 @@
  * kernel has no memory for its clients in the first seconds, and the engine none to end the first threads. With SHORT_CALL it asks the
  * kernel for something that it has no use for, as often as a client comes. With SHORT_OF_DISK nothing is taken of what is longer than
  * the heading of a recording, or rings a bell. With SHORT_OF_ENTRIES a journal of version two counts a thousand entries. And it asks
- * another daemon for seconds, not for a minute.
+ * another daemon for seconds, not for a minute. With SLOW_TO_LISTEN a second passes between its socket's beginning and its listening.
  */
 #include <errno.h>
 #include <fcntl.h>
@@ -108,6 +108,15 @@ ssize_t __wrap_write(int fd, const void *bytes, size_t size);
 ssize_t __wrap_write(int fd, const void *bytes, size_t size)
 {
     return size > HEADING && getenv("SHORT_OF_DISK") ? 0 : __real_write(fd, bytes, size);
+}
+
+int __real_listen(int fd, int backlog);
+int __wrap_listen(int fd, int backlog);
+int __wrap_listen(int fd, int backlog)
+{
+    if (getenv("SLOW_TO_LISTEN"))
+        sleep(1);
+    return __real_listen(fd, backlog);
 }
 
 /* Where the kernel lets it, none of them does harm. */
