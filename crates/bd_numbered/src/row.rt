@@ -1,8 +1,8 @@
 //! The values of one process.
 
-ghost use Rattle.std.specs.Prelude.{option_copied, ℕ, ◌≡◌, ◌==◌, ◌≤◌, ◌<◌, ◌+◌, true, false, Some, None, is_some, MatchOption, IfSome, IfNone, ◌^◌, if◌then◌else◌, OnOk, OnErr};
+ghost use Rattle.std.specs.Prelude.{option_copied, ℕ, ◌≡◌, ◌==◌, ◌≤◌, ◌<◌, ◌+◌, true, false, Some, None, is_some, option_map, MatchOption, IfSome, IfNone, ◌^◌, if◌then◌else◌, OnOk, OnErr};
 
-use bd_places::Places;
+use bd_places::{Change, Places};
 use std::alloc::{AllocError, Global};
 
 /// What the process has that was made by the step of this place.
@@ -129,18 +129,18 @@ impl<T: Copy> Row<T> {
         self.places.put(value) + 1
     }
 
-    /// Writes over what stands under a number.
+    /// Changes what stands under a number, if anything does.
     #[inline(always)]
-    pub(crate) fn set(&mut self, n: u32, value: T)
-        requires { is_some (value_of self.old n) ≡ true }
+    pub(crate) fn turn<C: Change<T>>(&mut self, n: u32, change: C)
         ensures made { self.new.made ≡ self.old.made }
-        ensures set { (m : ℕ) → value_of self.new m ≡ (if n == m then Some value else value_of self.old m) }
+        ensures turned { (m : ℕ) → value_of self.new m
+            ≡ (if n == m then option_map (C.changed change) (value_of self.old m) else value_of self.old m) }
         ensures uses { row_room self.old ≤ row_room self.new }
     {
         if n == 0 {
-            self.zero = Some(value);
+            self.zero = self.zero.map(|value| change.apply(value));
         } else {
-            self.places.set(n as usize - 1, value);
+            self.places.turn(n as usize - 1, change);
         }
     }
 

@@ -1,6 +1,6 @@
 //! One row among the others: what a change of it leaves of all of them.
 
-ghost use Rattle.std.specs.Prelude.{ℕ, ◌≡◌, ◌==◌, ◌≤◌, ◌<◌, ◌+◌, ◌&&◌, true, false, Some, None, is_some, IfSome, IfNone, ◌^◌, if◌then◌else◌, OnOk, OnErr};
+ghost use Rattle.std.specs.Prelude.{ℕ, ◌≡◌, ◌==◌, ◌≤◌, ◌<◌, ◌+◌, ◌&&◌, true, false, Some, None, is_some, option_map, IfSome, IfNone, ◌^◌, if◌then◌else◌, OnOk, OnErr};
 ghost use Rattle.std.specs.HashMap.{get_by, spare};
 ghost use Rattle.slab.specs.Slab.{HasRoomFor};
 ghost use Rattle.bd_numbered.specs.Row.{value_of, row_room};
@@ -8,6 +8,7 @@ ghost use Rattle.bd_numbered.specs.Columns.{made_in, values_in, rooms_in};
 
 use crate::row::Row;
 use bd_keys::insert_reserved;
+use bd_places::Change;
 use slab::Slab;
 use std::alloc::AllocError;
 use std::collections::HashMap;
@@ -85,18 +86,16 @@ pub(crate) fn put_in<T: Copy>(rows: &mut Slab<Row<T>>, k: usize, zero: bool, val
     }
 }
 
-/// Writes over what the row has under a number.
+/// Changes what the row has under a number, if it has anything.
 #[inline(always)]
-pub(crate) fn set_in<T: Copy>(rows: &mut Slab<Row<T>>, k: usize, n: u32, value: T)
-    requires { is_some (values_in rows.old k n) ≡ true }
+pub(crate) fn turn_in<T: Copy, C: Change<T>>(rows: &mut Slab<Row<T>>, k: usize, n: u32, change: C)
     ensures made { (j : ℕ) → made_in rows.new j ≡ made_in rows.old j }
-    ensures set { (j m : ℕ) → values_in rows.new j m
-        ≡ (if (k == j) && (n == m) then Some value else values_in rows.old j m) }
+    ensures turned { (j m : ℕ) → values_in rows.new j m
+        ≡ (if (k == j) && (n == m) then option_map (C.changed change) (values_in rows.old j m) else values_in rows.old j m) }
     ensures uses { (j : ℕ) → rooms_in rows.old j ≤ rooms_in rows.new j }
 {
-    match rows.get_mut(k) {
-        Some(row) => row.set(n, value),
-        None => unreachable!(),
+    if let Some(row) = rows.get_mut(k) {
+        row.turn(n, change);
     }
 }
 

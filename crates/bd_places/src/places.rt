@@ -1,11 +1,12 @@
 //! A vector of values, some of whose places are free.
 
-ghost use Rattle.std.specs.Prelude.{option_copied, ℕ, ◌≡◌, ◌==◌, ◌≤◌, ◌<◌, ◌+◌, true, Some, None, is_some, count_by, vec_len, IfSome, IfNone, if◌then◌else◌, OnOk, OnErr};
+ghost use Rattle.std.specs.Prelude.{option_copied, ℕ, ◌≡◌, ◌==◌, ◌≤◌, ◌<◌, ◌+◌, true, Some, None, is_some, option_map, count_by, vec_len, IfSome, IfNone, if◌then◌else◌, OnOk, OnErr};
 ghost use Rattle.std.specs.BinaryHeap.{IsHeap, heap_items, heap_len, heap_capacity};
 ghost use Rattle.std.specs.Ordering.{nat_cmp};
 ghost use Rattle.std.proofs.Props.{props};
 ghost use Rattle.bd_places.specs.Free.{free_at, is_place};
 
+use crate::change::Change;
 use std::alloc::{AllocError, Global};
 use std::cmp::Reverse;
 use std::collections::BinaryHeap;
@@ -141,14 +142,16 @@ impl<T: Copy> Places<T> {
         }
     }
 
-    /// Writes over what stands at a place.
+    /// Changes what stands at a place, if anything does.
     #[inline(always)]
-    pub fn set(&mut self, i: usize, value: T)
-        requires { is_some (at self.old i) ≡ true }
-        ensures set { (j : ℕ) → at self.new j ≡ (if i == j then Some value else at self.old j) }
+    pub fn turn<C: Change<T>>(&mut self, i: usize, change: C)
+        ensures turned { (j : ℕ) → at self.new j
+            ≡ (if i == j then option_map (C.changed change) (at self.old j) else at self.old j) }
         ensures uses { place_room self.old ≤ place_room self.new }
     {
-        self.rows[i] = Some(value);
+        if let Some(value) = self.get(i) {
+            self.rows[i] = Some(change.apply(value));
+        }
     }
 
     /// Takes out what stands at a place, for which no memory is needed.
