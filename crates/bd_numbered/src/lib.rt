@@ -6,6 +6,5 @@ mod numbered;
 mod row;
 mod rows;
 
-pub use bd_places::Change;
 pub use guesses::Guesses;
 pub use numbered::Numbered;

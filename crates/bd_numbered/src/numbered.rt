@@ -2,6 +2,7 @@
 
 ghost use Rattle.std.specs.Prelude.{option_copied, ℕ, ◌≡◌, ◌==◌, ◌≤◌, ◌<◌, ◌+◌, ◌&&◌, true, false, Some, None, is_some, option_map, MatchOption, IfSome, IfNone, ◌^◌, if◌then◌else◌, OnOk, OnErr};
 ghost use Rattle.std.specs.HashMap.{get_by};
+ghost use Rattle.bd_places.specs.Places.{is_there_and};
 ghost use Rattle.bd_numbered.specs.Columns.{made_in};
 
 use crate::guesses::Guesses;
@@ -174,15 +175,17 @@ impl<T: Copy> Numbered<T> {
         }
     }
 
-    /// Changes what the process has under a number, if it has anything.
+    /// Changes what the process has under a number, if that is meant: whether it is.
     #[inline(always)]
-    pub fn turn<C: Change<T>>(&mut self, p: u64, n: u32, change: C)
-        ensures turned { (q m : ℕ) → value_at self.new q m
-            ≡ (if (p == q) && (n == m) then option_map (C.changed change) (value_at self.old q m) else value_at self.old q m) }
+    pub fn turn<C: Change<T>>(&mut self, p: u64, n: u32, change: C) -> bool
+        ensures meant { result ≡ is_there_and (C.meant change) (value_at self.old p n) }
+        ensures turned { (q m : ℕ) → value_at self.new q m ≡ (if (p == q) && (result && (n == m))
+            then option_map (C.changed change) (value_at self.old q m) else value_at self.old q m) }
         ensures uses { (q : ℕ) → number_room self.old q ≤ number_room self.new q }
     {
-        if let Some(k) = self.slot_of(p) {
-            turn_in(&mut self.rows, k, n, change);
+        match self.slot_of(p) {
+            Some(k) => turn_in(&mut self.rows, k, n, change),
+            None => false,
         }
     }
 

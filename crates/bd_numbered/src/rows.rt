@@ -3,6 +3,7 @@
 ghost use Rattle.std.specs.Prelude.{ℕ, ◌≡◌, ◌==◌, ◌≤◌, ◌<◌, ◌+◌, ◌&&◌, true, false, Some, None, is_some, option_map, IfSome, IfNone, ◌^◌, if◌then◌else◌, OnOk, OnErr};
 ghost use Rattle.std.specs.HashMap.{get_by, spare};
 ghost use Rattle.slab.specs.Slab.{HasRoomFor};
+ghost use Rattle.bd_places.specs.Places.{is_there_and};
 ghost use Rattle.bd_numbered.specs.Row.{value_of, row_room};
 ghost use Rattle.bd_numbered.specs.Columns.{made_in, values_in, rooms_in};
 
@@ -86,16 +87,23 @@ pub(crate) fn put_in<T: Copy>(rows: &mut Slab<Row<T>>, k: usize, zero: bool, val
     }
 }
 
-/// Changes what the row has under a number, if it has anything.
+/// Changes what the row has under a number, if that is meant: whether it is.
 #[inline(always)]
-pub(crate) fn turn_in<T: Copy, C: Change<T>>(rows: &mut Slab<Row<T>>, k: usize, n: u32, change: C)
+pub(crate) fn turn_in<T: Copy, C: Change<T>>(
+    rows: &mut Slab<Row<T>>,
+    k: usize,
+    n: u32,
+    change: C,
+) -> bool
     ensures made { (j : ℕ) → made_in rows.new j ≡ made_in rows.old j }
-    ensures turned { (j m : ℕ) → values_in rows.new j m
-        ≡ (if (k == j) && (n == m) then option_map (C.changed change) (values_in rows.old j m) else values_in rows.old j m) }
+    ensures meant { result ≡ is_there_and (C.meant change) (values_in rows.old k n) }
+    ensures turned { (j m : ℕ) → values_in rows.new j m ≡ (if (k == j) && (result && (n == m))
+        then option_map (C.changed change) (values_in rows.old j m) else values_in rows.old j m) }
     ensures uses { (j : ℕ) → rooms_in rows.old j ≤ rooms_in rows.new j }
 {
-    if let Some(row) = rows.get_mut(k) {
-        row.turn(n, change);
+    match rows.get_mut(k) {
+        Some(row) => row.turn(n, change),
+        None => false,
     }
 }
 

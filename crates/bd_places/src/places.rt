@@ -1,6 +1,6 @@
 //! A vector of values, some of whose places are free.
 
-ghost use Rattle.std.specs.Prelude.{option_copied, ℕ, ◌≡◌, ◌==◌, ◌≤◌, ◌<◌, ◌+◌, true, Some, None, is_some, option_map, count_by, vec_len, IfSome, IfNone, if◌then◌else◌, OnOk, OnErr};
+ghost use Rattle.std.specs.Prelude.{option_copied, ℕ, ◌≡◌, ◌==◌, ◌≤◌, ◌<◌, ◌+◌, ◌&&◌, true, Some, None, is_some, option_map, count_by, vec_len, IfSome, IfNone, if◌then◌else◌, OnOk, OnErr};
 ghost use Rattle.std.specs.BinaryHeap.{IsHeap, heap_items, heap_len, heap_capacity};
 ghost use Rattle.std.specs.Ordering.{nat_cmp};
 ghost use Rattle.std.proofs.Props.{props};
@@ -38,7 +38,7 @@ fn push_reserved(free: &mut BinaryHeap<Reverse<usize>>, i: usize)
 }
 
 impl<T: Copy> Places<T> {
-    ghost use Rattle.bd_places.specs.Places.{at, place_room};
+    ghost use Rattle.bd_places.specs.Places.{at, is_there_and, place_room};
 
     /// An empty vector, which takes no memory yet.
     pub fn new(alloc: Global) -> Places<T>
@@ -142,15 +142,20 @@ impl<T: Copy> Places<T> {
         }
     }
 
-    /// Changes what stands at a place, if anything does.
+    /// Changes what stands at a place, if that is meant: whether it is.
     #[inline(always)]
-    pub fn turn<C: Change<T>>(&mut self, i: usize, change: C)
+    pub fn turn<C: Change<T>>(&mut self, i: usize, change: C) -> bool
+        ensures meant { result ≡ is_there_and (C.meant change) (at self.old i) }
         ensures turned { (j : ℕ) → at self.new j
-            ≡ (if i == j then option_map (C.changed change) (at self.old j) else at self.old j) }
+            ≡ (if result && (i == j) then option_map (C.changed change) (at self.old j) else at self.old j) }
         ensures uses { place_room self.old ≤ place_room self.new }
     {
-        if let Some(value) = self.get(i) {
-            self.rows[i] = Some(change.apply(value));
+        match self.get(i) {
+            Some(value) if change.is_meant(value) => {
+                self.rows[i] = Some(change.apply(value));
+                true
+            }
+            _ => false,
         }
     }
 

@@ -190,17 +190,17 @@ impl Names {
         }
     }
 
-    // The record changes that the process has under this number, which is its name of the object.
+    // Counts the reference, or no longer, in the record under this number, if it is of the object: whether it is.
     #[inline(always)]
-    fn turn_at(&mut self, p: u64, n: u32, r: Reference, more: bool)
-        requires { number_of self.old p r.object ≡ Some n }
-        ensures turned { (q : ℕ) (o : declared.Identity) → name_at self.new q o
-            ≡ (if (p == q) && same r.object o then option_map (spec.name_turned more r) (name_at self.old q o) else name_at self.old q o) }
+    fn turn_at(&mut self, p: u64, n: u32, r: Reference, more: bool) -> bool
+        ensures is { result ≡ is_at n (number_of self.old p r.object) }
+        ensures turned { (q : ℕ) (o : declared.Identity) → name_at self.new q o ≡ (if (p == q) && (result && same r.object o)
+            then option_map (spec.name_turned more r) (name_at self.old q o) else name_at self.old q o) }
         ensures named { (q m : ℕ) → named_by self.new q m ≡ named_by self.old q m }
         ensures numbers { (q : ℕ) (o : declared.Identity) → number_of self.new q o ≡ number_of self.old q o }
         ensures uses { (q : ℕ) → name_room self.old q ≤ name_room self.new q }
     {
-        self.rows.turn(p, n, Turned { reference: r, more });
+        self.rows.turn(p, n, Turned { reference: r, more })
     }
 
     /// Counts the reference, or no longer, in the record of the process's name of its object.
@@ -214,11 +214,12 @@ impl Names {
         ensures uses { (q : ℕ) → name_room self.old q ≤ name_room self.new q }
     {
         let guess = guess_of(&self.guesses, key_of(p, r.object));
-        if self.named(p, guess) == Some(r.object) {
-            self.turn_at(p, guess, r, more);
-        } else if let Some(n) = self.number_among(p, r.object) {
+        if self.turn_at(p, guess, r, more) {
+            return;
+        }
+        if let Some(n) = self.number_among(p, r.object) {
             note_again(&mut self.guesses, p, r.object, n);
-            self.turn_at(p, n, r, more);
+            let _there = self.turn_at(p, n, r, more);
         }
     }
 
@@ -231,7 +232,7 @@ impl Names {
         ensures uses { (q : ℕ) → name_room self.old q ≤ name_room self.new q }
     {
         if let Some(n) = self.number_of(p, o) {
-            self.rows.turn(p, n, Unasked);
+            let _there = self.rows.turn(p, n, Unasked { object: o });
         }
     }
 
