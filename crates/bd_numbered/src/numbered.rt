@@ -1,15 +1,17 @@
 //! The rows of all processes.
 
-ghost use Rattle.std.specs.Prelude.{option_copied, ℕ, ◌≡◌, ◌==◌, ◌≤◌, ◌<◌, ◌+◌, ◌&&◌, true, false, Some, None, is_some, MatchOption, IfSome, IfNone, ◌^◌, if◌then◌else◌, OnOk, OnErr};
+ghost use Rattle.std.specs.Prelude.{option_copied, ℕ, ◌≡◌, ◌==◌, ◌≤◌, ◌<◌, ◌+◌, ◌&&◌, true, false, Some, None, is_some, option_map, MatchOption, IfSome, IfNone, ◌^◌, if◌then◌else◌, OnOk, OnErr};
 ghost use Rattle.std.specs.HashMap.{get_by};
+ghost use Rattle.bd_places.specs.Places.{is_there_and};
 ghost use Rattle.bd_numbered.specs.Columns.{made_in};
 
 use crate::guesses::Guesses;
 use crate::row::Row;
 use crate::rows::{
     free_in, insert_row, insert_slot, made_at, next_in, put_in, remove_in, remove_row, remove_slot,
-    reserve_in, reserve_rows, reserve_slots, set_in,
+    reserve_in, reserve_rows, reserve_slots, turn_in,
 };
+use bd_places::Change;
 use slab::Slab;
 use std::alloc::{AllocError, Global};
 use std::collections::HashMap;
@@ -173,17 +175,17 @@ impl<T: Copy> Numbered<T> {
         }
     }
 
-    /// Writes over what the process has under a number.
+    /// Changes what the process has under a number, if that is meant: whether it is.
     #[inline(always)]
-    pub fn set(&mut self, p: u64, n: u32, value: T)
-        requires { is_some (value_at self.old p n) ≡ true }
-        ensures set { (q m : ℕ) → value_at self.new q m
-            ≡ (if (p == q) && (n == m) then Some value else value_at self.old q m) }
+    pub fn turn<C: Change<T>>(&mut self, p: u64, n: u32, change: C) -> bool
+        ensures meant { result ≡ is_there_and (C.meant change) (value_at self.old p n) }
+        ensures turned { (q m : ℕ) → value_at self.new q m ≡ (if (p == q) && (result && (n == m))
+            then option_map (C.changed change) (value_at self.old q m) else value_at self.old q m) }
         ensures uses { (q : ℕ) → number_room self.old q ≤ number_room self.new q }
     {
         match self.slot_of(p) {
-            Some(k) => set_in(&mut self.rows, k, n, value),
-            None => unreachable!(),
+            Some(k) => turn_in(&mut self.rows, k, n, change),
+            None => false,
         }
     }
 

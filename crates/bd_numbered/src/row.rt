@@ -1,8 +1,8 @@
 //! The values of one process.
 
-ghost use Rattle.std.specs.Prelude.{option_copied, ℕ, ◌≡◌, ◌==◌, ◌≤◌, ◌<◌, ◌+◌, true, false, Some, None, is_some, MatchOption, IfSome, IfNone, ◌^◌, if◌then◌else◌, OnOk, OnErr};
+ghost use Rattle.std.specs.Prelude.{option_copied, ℕ, ◌≡◌, ◌==◌, ◌≤◌, ◌<◌, ◌+◌, ◌&&◌, true, false, Some, None, is_some, option_map, MatchOption, IfSome, IfNone, ◌^◌, if◌then◌else◌, OnOk, OnErr};
 
-use bd_places::Places;
+use bd_places::{Change, Places};
 use std::alloc::{AllocError, Global};
 
 /// What the process has that was made by the step of this place.
@@ -15,6 +15,7 @@ pub(crate) struct Row<T> {
 }
 
 impl<T: Copy> Row<T> {
+    ghost use Rattle.bd_places.specs.Places.{is_there_and};
     ghost use Rattle.bd_numbered.specs.Row.{value_of, row_room, IsFreeFrom};
 
     /// An empty row.
@@ -129,18 +130,36 @@ impl<T: Copy> Row<T> {
         self.places.put(value) + 1
     }
 
-    /// Writes over what stands under a number.
-    #[inline(always)]
-    pub(crate) fn set(&mut self, n: u32, value: T)
-        requires { is_some (value_of self.old n) ≡ true }
+    // The same under 0.
+    fn turn_zero<C: Change<T>>(&mut self, change: C) -> bool
         ensures made { self.new.made ≡ self.old.made }
-        ensures set { (m : ℕ) → value_of self.new m ≡ (if n == m then Some value else value_of self.old m) }
+        ensures meant { result ≡ is_there_and (C.meant change) (value_of self.old 0) }
+        ensures turned { (m : ℕ) → value_of self.new m
+            ≡ (if result && (0 == m) then option_map (C.changed change) (value_of self.old m) else value_of self.old m) }
+        ensures uses { row_room self.old ≤ row_room self.new }
+    {
+        match self.zero {
+            Some(value) if change.is_meant(value) => {
+                self.zero = Some(change.apply(value));
+                true
+            }
+            _ => false,
+        }
+    }
+
+    /// Changes what stands under a number, if that is meant: whether it is.
+    #[inline(always)]
+    pub(crate) fn turn<C: Change<T>>(&mut self, n: u32, change: C) -> bool
+        ensures made { self.new.made ≡ self.old.made }
+        ensures meant { result ≡ is_there_and (C.meant change) (value_of self.old n) }
+        ensures turned { (m : ℕ) → value_of self.new m
+            ≡ (if result && (n == m) then option_map (C.changed change) (value_of self.old m) else value_of self.old m) }
         ensures uses { row_room self.old ≤ row_room self.new }
     {
         if n == 0 {
-            self.zero = Some(value);
+            self.turn_zero(change)
         } else {
-            self.places.set(n as usize - 1, value);
+            self.places.turn(n as usize - 1, change)
         }
     }
 

@@ -1,13 +1,15 @@
 //! One row among the others: what a change of it leaves of all of them.
 
-ghost use Rattle.std.specs.Prelude.{ℕ, ◌≡◌, ◌==◌, ◌≤◌, ◌<◌, ◌+◌, ◌&&◌, true, false, Some, None, is_some, IfSome, IfNone, ◌^◌, if◌then◌else◌, OnOk, OnErr};
+ghost use Rattle.std.specs.Prelude.{ℕ, ◌≡◌, ◌==◌, ◌≤◌, ◌<◌, ◌+◌, ◌&&◌, true, false, Some, None, is_some, option_map, IfSome, IfNone, ◌^◌, if◌then◌else◌, OnOk, OnErr};
 ghost use Rattle.std.specs.HashMap.{get_by, spare};
 ghost use Rattle.slab.specs.Slab.{HasRoomFor};
+ghost use Rattle.bd_places.specs.Places.{is_there_and};
 ghost use Rattle.bd_numbered.specs.Row.{value_of, row_room};
 ghost use Rattle.bd_numbered.specs.Columns.{made_in, values_in, rooms_in};
 
 use crate::row::Row;
 use bd_keys::insert_reserved;
+use bd_places::Change;
 use slab::Slab;
 use std::alloc::AllocError;
 use std::collections::HashMap;
@@ -85,18 +87,23 @@ pub(crate) fn put_in<T: Copy>(rows: &mut Slab<Row<T>>, k: usize, zero: bool, val
     }
 }
 
-/// Writes over what the row has under a number.
+/// Changes what the row has under a number, if that is meant: whether it is.
 #[inline(always)]
-pub(crate) fn set_in<T: Copy>(rows: &mut Slab<Row<T>>, k: usize, n: u32, value: T)
-    requires { is_some (values_in rows.old k n) ≡ true }
+pub(crate) fn turn_in<T: Copy, C: Change<T>>(
+    rows: &mut Slab<Row<T>>,
+    k: usize,
+    n: u32,
+    change: C,
+) -> bool
     ensures made { (j : ℕ) → made_in rows.new j ≡ made_in rows.old j }
-    ensures set { (j m : ℕ) → values_in rows.new j m
-        ≡ (if (k == j) && (n == m) then Some value else values_in rows.old j m) }
+    ensures meant { result ≡ is_there_and (C.meant change) (values_in rows.old k n) }
+    ensures turned { (j m : ℕ) → values_in rows.new j m ≡ (if (k == j) && (result && (n == m))
+        then option_map (C.changed change) (values_in rows.old j m) else values_in rows.old j m) }
     ensures uses { (j : ℕ) → rooms_in rows.old j ≤ rooms_in rows.new j }
 {
     match rows.get_mut(k) {
-        Some(row) => row.set(n, value),
-        None => unreachable!(),
+        Some(row) => row.turn(n, change),
+        None => false,
     }
 }
 

@@ -1,11 +1,12 @@
 //! A vector of values, some of whose places are free.
 
-ghost use Rattle.std.specs.Prelude.{option_copied, ℕ, ◌≡◌, ◌==◌, ◌≤◌, ◌<◌, ◌+◌, true, Some, None, is_some, count_by, vec_len, IfSome, IfNone, if◌then◌else◌, OnOk, OnErr};
+ghost use Rattle.std.specs.Prelude.{option_copied, ℕ, ◌≡◌, ◌==◌, ◌≤◌, ◌<◌, ◌+◌, ◌&&◌, true, Some, None, is_some, option_map, count_by, vec_len, IfSome, IfNone, if◌then◌else◌, OnOk, OnErr};
 ghost use Rattle.std.specs.BinaryHeap.{IsHeap, heap_items, heap_len, heap_capacity};
 ghost use Rattle.std.specs.Ordering.{nat_cmp};
 ghost use Rattle.std.proofs.Props.{props};
 ghost use Rattle.bd_places.specs.Free.{free_at, is_place};
 
+use crate::change::Change;
 use std::alloc::{AllocError, Global};
 use std::cmp::Reverse;
 use std::collections::BinaryHeap;
@@ -37,7 +38,7 @@ fn push_reserved(free: &mut BinaryHeap<Reverse<usize>>, i: usize)
 }
 
 impl<T: Copy> Places<T> {
-    ghost use Rattle.bd_places.specs.Places.{at, place_room};
+    ghost use Rattle.bd_places.specs.Places.{at, is_there_and, place_room};
 
     /// An empty vector, which takes no memory yet.
     pub fn new(alloc: Global) -> Places<T>
@@ -141,14 +142,21 @@ impl<T: Copy> Places<T> {
         }
     }
 
-    /// Writes over what stands at a place.
+    /// Changes what stands at a place, if that is meant: whether it is.
     #[inline(always)]
-    pub fn set(&mut self, i: usize, value: T)
-        requires { is_some (at self.old i) ≡ true }
-        ensures set { (j : ℕ) → at self.new j ≡ (if i == j then Some value else at self.old j) }
+    pub fn turn<C: Change<T>>(&mut self, i: usize, change: C) -> bool
+        ensures meant { result ≡ is_there_and (C.meant change) (at self.old i) }
+        ensures turned { (j : ℕ) → at self.new j
+            ≡ (if result && (i == j) then option_map (C.changed change) (at self.old j) else at self.old j) }
         ensures uses { place_room self.old ≤ place_room self.new }
     {
-        self.rows[i] = Some(value);
+        match self.get(i) {
+            Some(value) if change.is_meant(value) => {
+                self.rows[i] = Some(change.apply(value));
+                true
+            }
+            _ => false,
+        }
     }
 
     /// Takes out what stands at a place, for which no memory is needed.

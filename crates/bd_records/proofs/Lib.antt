@@ -1,6 +1,7 @@
 mod Keyed
 mod Latest
 mod Naming
+mod NameTurns
 mod Tallies
 mod Lists
 mod Pairing

@@ -9,7 +9,7 @@ ghost use Rattle.bd_records.specs.Counting as spec;
 ghost use Rattle.bd_keys.specs.Numbers.{pair};
 
 use crate::count::Count;
-use crate::counting::name_turned;
+use crate::counting::{Turned, Unasked};
 use crate::keys::{remove_numbers, reserve_numbers};
 use crate::number_key::{ObjectKey, insert_number, number_in, remove_number};
 use crate::numbers::NumbersFull;
@@ -190,7 +190,21 @@ impl Names {
         }
     }
 
+    // Counts the reference, or no longer, in the record under this number, if it is of the object: whether it is.
+    #[inline(always)]
+    fn turn_at(&mut self, p: u64, n: u32, r: Reference, more: bool) -> bool
+        ensures is { result ≡ is_at n (number_of self.old p r.object) }
+        ensures turned { (q : ℕ) (o : declared.Identity) → name_at self.new q o ≡ (if (p == q) && (result && same r.object o)
+            then option_map (spec.name_turned more r) (name_at self.old q o) else name_at self.old q o) }
+        ensures named { (q m : ℕ) → named_by self.new q m ≡ named_by self.old q m }
+        ensures numbers { (q : ℕ) (o : declared.Identity) → number_of self.new q o ≡ number_of self.old q o }
+        ensures uses { (q : ℕ) → name_room self.old q ≤ name_room self.new q }
+    {
+        self.rows.turn(p, n, Turned { reference: r, more })
+    }
+
     /// Counts the reference, or no longer, in the record of the process's name of its object.
+    // What is looked at is changed at once, where the guess is right: nothing else is read or noted.
     #[inline(always)]
     pub fn turn(&mut self, p: u64, r: Reference, more: bool)
         ensures turned { (q : ℕ) (o : declared.Identity) → name_at self.new q o
@@ -199,9 +213,13 @@ impl Names {
         ensures numbers { (q : ℕ) (o : declared.Identity) → number_of self.new q o ≡ number_of self.old q o }
         ensures uses { (q : ℕ) → name_room self.old q ≤ name_room self.new q }
     {
-        if let Some(s) = self.spot_of(p, r.object) {
-            note_again(&mut self.guesses, p, r.object, s.number);
-            self.rows.set(p, s.number, name_turned(more, s.row, r));
+        let guess = guess_of(&self.guesses, key_of(p, r.object));
+        if self.turn_at(p, guess, r, more) {
+            return;
+        }
+        if let Some(n) = self.number_among(p, r.object) {
+            note_again(&mut self.guesses, p, r.object, n);
+            let _there = self.turn_at(p, n, r, more);
         }
     }
 
@@ -213,15 +231,8 @@ impl Names {
         ensures numbers { (q : ℕ) (x : declared.Identity) → number_of self.new q x ≡ number_of self.old q x }
         ensures uses { (q : ℕ) → name_room self.old q ≤ name_room self.new q }
     {
-        if let Some(s) = self.spot_of(p, o) {
-            self.rows.set(
-                p,
-                s.number,
-                NameRow {
-                    asked: Count::none(),
-                    ..s.row
-                },
-            );
+        if let Some(n) = self.number_of(p, o) {
+            let _there = self.rows.turn(p, n, Unasked { object: o });
         }
     }
 

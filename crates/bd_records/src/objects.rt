@@ -147,16 +147,31 @@ impl Objects {
         row_in(&self.rows, k)
     }
 
+    // The record changes in this slot, which is the object's.
+    #[inline(always)]
+    fn turn_at(&mut self, k: usize, r: Reference, more: bool)
+        requires { slot_at self.old r.object ≡ Some k }
+        ensures turned { (x : declared.Identity) → row_at self.new x
+            ≡ (if same r.object x then option_map (spec.turned more r) (row_at self.old x) else row_at self.old x) }
+        ensures uses { object_room self.old ≤ object_room self.new }
+    {
+        turn_row(&mut self.rows, k, r, more);
+    }
+
     /// Counts the reference, or no longer, in the record of its object.
+    // What is looked at is changed at once, where the guess is right: nothing else is read or noted.
     #[inline(always)]
     pub fn turn(&mut self, r: Reference, more: bool)
         ensures turned { (x : declared.Identity) → row_at self.new x
             ≡ (if same r.object x then option_map (spec.turned more r) (row_at self.old x) else row_at self.old x) }
         ensures uses { object_room self.old ≤ object_room self.new }
     {
-        if let Some(k) = self.slot_of(r.object) {
+        let guess = guess_of(&self.guesses, key_of(r.object)) as usize;
+        if id_at(&self.rows, guess) == Some(r.object) {
+            self.turn_at(guess, r, more);
+        } else if let Some(k) = self.slot_among(r.object) {
             note_again(&mut self.guesses, r.object, k);
-            turn_row(&mut self.rows, k, r, more);
+            self.turn_at(k, r, more);
         }
     }
 

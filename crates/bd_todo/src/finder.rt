@@ -77,6 +77,7 @@ impl Finder {
     }
 
     /// Whether any is looked up so.
+    #[inline(always)]
     pub fn has(&self, key: Sought) -> bool
         ensures { result ≡ nat_lt 0 (found_at self.now key) }
     {

@@ -178,6 +178,7 @@ impl Spots {
     }
 
     /// Whether any is looked up so.
+    #[inline(always)]
     pub fn has(&self, key: Sought) -> bool
         ensures { result ≡ nat_lt 0 (count_at self.now key) }
     {

@@ -1,51 +1,26 @@
-use Rattle.std.proofs.Common.{◌≡◌, ◌==◌, cond, ◌&&◌, None, is_some, ap, arith}
-use Rattle.std.specs.Prelude.{option_map}
-use Rattle.bd_ways.specs.Words.{Identity, same}
-use Rattle.bd_records.specs.{declared.row.NameRow.{NameRow}, Counting.{unasked}}
+use Rattle.std.proofs.Common.{◌≡◌, ◌∙◌, ap, sym, arith}
+use Rattle.bd_ways.specs.Words.{Identity}
+use Rattle.bd_chains.specs.Chain.{is_at}
+use Rattle.bd_records.specs.{declared.row.NameRow.{NameRow}, Counting.{unasked}, NumberKeys.{number_at}}
 use Rattle.bd_numbered.specs.Numbered.{value_at}
-use Rattle.bd_records.specs.NumberKeys.{number_at}
-use Rattle.bd_records.specs.{NameRows.{object_of}, Slots.{on_slot}}
-use Rattle.bd_records.proofs.Naming.{by_process, own_process, changed_at, same_slots}
-use Rattle.bd_records.proofs.Keyed.{set_found, set_leads, set_at, AreFound, Lead}
+use Rattle.bd_records.proofs.NameTurns.{turned_found, turned_leads, turned_at, meant_is}
 use Rattle.bd_records.proofs.names.Names.clear_asked.Goals as goal
 
 kept_object : (o : Identity) (w : NameRow) → w.object ≡ o → (unasked w).object ≡ o
 kept_object o w e = e
 
-pub set-requires : goal.set-requires
-set-requires c = ap is_some c.in-Some.ensures.row
-
 pub invariant_of-self-clause-found : goal.invariant_of-self-clause-found
 invariant_of-self-clause-found c =
     let t = c.args.self.now in
-    let p = c.args.p in
-    let k = c.in-Some.s.number in
-    by_process (λ q. AreFound (λ j. option_map object_of (value_at c.set.new.self q j)) (number_at t.numbers q)) p
-    (set_found object_of (value_at t.rows p) (value_at c.set.new.self p) (number_at t.numbers p) (number_at t.numbers p) c.args.o k (t.found p) (t.leads p) c.in-Some.ensures.number unasked (kept_object c.args.o)
-    (changed_at (value_at t.rows p) (value_at c.set.new.self p) k unasked c.in-Some.s.row c.in-Some.ensures.row (λ j. grind (arith, c.set.ensures.set p j, own_process p, c.none.ensures))))
-    (λ q off x j e. t.found q x j (grind (arith, e, c.set.ensures.set q j, off)))
+    turned_found (value_at t.rows) (value_at c.turn-there.new.self) (number_at t.numbers) c.args.p c.in-Some.n c.args.o c.turn-there.result t.found t.leads c.turn-there.ensures.meant unasked (kept_object c.args.o) c.turn-there.ensures.turned
 
 pub invariant_of-self-clause-leads : goal.invariant_of-self-clause-leads
 invariant_of-self-clause-leads c =
     let t = c.args.self.now in
-    let p = c.args.p in
-    let k = c.in-Some.s.number in
-    by_process (λ q. Lead (λ j. option_map object_of (value_at c.set.new.self q j)) (number_at t.numbers q)) p
-    (set_leads object_of (value_at t.rows p) (value_at c.set.new.self p) (number_at t.numbers p) (number_at t.numbers p) c.args.o k (t.found p) (t.leads p) c.in-Some.ensures.number unasked (kept_object c.args.o)
-    (changed_at (value_at t.rows p) (value_at c.set.new.self p) k unasked c.in-Some.s.row c.in-Some.ensures.row (λ j. grind (arith, c.set.ensures.set p j, own_process p, c.none.ensures))))
-    (λ q off x j e. grind (arith, t.leads q x j e, c.set.ensures.set q j, off))
+    turned_leads (value_at t.rows) (value_at c.turn-there.new.self) (number_at t.numbers) c.args.p c.in-Some.n c.args.o c.turn-there.result t.found t.leads c.turn-there.ensures.meant unasked (kept_object c.args.o) c.turn-there.ensures.turned
 
 pub returns-in-Some-clause-cleared : goal.returns-in-Some-clause-cleared
 returns-in-Some-clause-cleared c =
     let t = c.args.self.now in
-    let p = c.args.p in
-    let k = c.in-Some.s.number in
-    by_process (λ q. (x : Identity) → on_slot None (value_at c.set.new.self q) (number_at t.numbers q x)
-    ≡ cond ((p == q) && same c.args.o x) (option_map unasked (on_slot None (value_at t.rows q) (number_at t.numbers q x))) (on_slot None (value_at t.rows q) (number_at t.numbers q x))) p
-    (λ x. grind (
-      arith,
-      own_process p,
-      set_at object_of (value_at t.rows p) (value_at c.set.new.self p) (number_at t.numbers p) (number_at t.numbers p) c.args.o k (t.found p) (t.leads p) c.in-Some.ensures.number unasked (kept_object c.args.o)
-          (changed_at (value_at t.rows p) (value_at c.set.new.self p) k unasked c.in-Some.s.row c.in-Some.ensures.row (λ j. grind (arith, c.set.ensures.set p j, own_process p, c.none.ensures))) x,
-    ))
-    (λ q off x. grind (arith, off, same_slots (value_at t.rows q) (value_at c.set.new.self q) (number_at t.numbers q x) (λ j. grind (arith, off, c.set.ensures.set q j))))
+    let there = meant_is (value_at t.rows) (value_at c.turn-there.new.self) (number_at t.numbers) c.args.p c.in-Some.n c.args.o c.turn-there.result t.found t.leads c.turn-there.ensures.meant unasked (kept_object c.args.o) c.turn-there.ensures.turned ∙ ap (is_at c.in-Some.n) (sym c.number_of.ensures ∙ c.in-Some.is) in
+    λ q x. grind (arith, there, turned_at (value_at t.rows) (value_at c.turn-there.new.self) (number_at t.numbers) c.args.p c.in-Some.n c.args.o c.turn-there.result t.found t.leads c.turn-there.ensures.meant unasked (kept_object c.args.o) c.turn-there.ensures.turned q x)
