@@ -29,47 +29,15 @@ module _ (free : ℕ → Bool) (t : Spans) (p n b : ℕ) (is : Tiles free t) (so
 
   -- one that ends where it begins is the one that was found
   ends_at : (i : ℕ) → 0 < hole_at t i → i + hole_at t i ≡ p → i ≡ b
-  ends_at i pos e =
-      let h = is.holes i pos in
-      let within = begin.within in
-      elim (cases_lt b p) [
-        | inl less ↦ (
-            let size = begin.hole less in
-            elim (cases_order i b) [
-              | inl same ↦ same
-              | inr (inl lt) ↦ absurd (let far = apart free t is i b pos (omega arith) lt in omega arith)
-              | inr (inr gt) ↦ absurd (let far = apart free t is b i (omega arith) pos gt in omega arith)
-            ])
-        | inr ge ↦ (
-            let last : i + hole_at t i - 1 ≡ p - 1 = omega arith in
-            let name = subst (λ k. get_or t.begins.items k 0 ≡ i) last h.named in
-            absurd (begin.none (omega arith) (omega arith) i name (omega arith) (omega arith)))
-      ]
+  ends_at i pos e = search arith
 
   -- what is free from where it begins to the span
   free_from : (u : ℕ) → b ≤ u → u < p → free u ≡ true
-  free_from u low high =
-      let size = begin.hole (omega arith) in
-      let h = is.holes b (omega arith) in
-      h.all_free u low (omega arith)
+  free_from u low high = search arith
 
   -- and what is before it isn't
   not_before : 0 < b → free (b - 1) ≡ false
-  not_before first =
-      let within = begin.within in
-      elim (cases_lt b p) [
-        | inl less ↦ (let size = begin.hole less in let h = is.holes b (omega arith) in h.starts first)
-        | inr ge ↦ elim (cases_Bool (free (b - 1))) [
-          | inr f ↦ f
-          | inl f ↦ (
-              let c = is.covered (b - 1) (omega arith) f in
-              let from = c.from in
-              let to = c.to in
-              let le = ends_by c.first (omega arith) (omega arith) in
-              let same = ends_at c.first (omega arith) (omega arith) in
-              absurd (omega arith))
-        ]
-      ]
+  not_before first = search arith
 
   -- a hole that isn't the one that was found ends before the span or begins behind it
   beside : (i : ℕ) → (i ≡ b → ⊥) → 0 < hole_at t i → (i + hole_at t i < b) ⊎ (p + n ≤ i)
@@ -147,34 +115,13 @@ module _ (free : ℕ → Bool) (t : Spans) (p n b : ℕ) (is : Tiles free t) (so
       (names : (j : ℕ) → (j ≡ p + n + hole_at t (p + n) - 1 → ⊥) → get_or s.begins.items j 0 ≡ get_or t.begins.items j 0) where
     -- the new hole ends where something is
     not_behind : free (p + n + hole_at t (p + n)) ≡ false
-    not_behind =
-        elim (cases_lt 0 (hole_at t (p + n))) [
-          | inl pos ↦ (let h = is.holes (p + n) pos in h.ends)
-          | inr none ↦ elim (cases_Bool (free (p + n + hole_at t (p + n)))) [
-            | inr f ↦ f
-            | inl f ↦ (
-                let here : p + n + hole_at t (p + n) ≡ p + n = omega arith in
-                let c = is.covered (p + n) before (subst (λ k. free k ≡ true) here f) in
-                let from = c.from in
-                let to = c.to in
-                let ne : c.first ≡ p + n → ⊥ = λ e. (let q = subst (λ k. p + n < k + hole_at t k) e to in omega arith) in
-                let h = is.holes c.first (omega arith) in
-                clash (free (p + n - 1)) (h.all_free (p + n - 1) (omega arith) (omega arith)) (taken (p + n - 1) (omega arith) (omega arith)))
-          ]
-        ]
+    not_behind = search arith
 
     new_end : p + n + hole_at t (p + n) < t.tail
     new_end = elim (cases_lt 0 (hole_at t (p + n))) [ inl pos ↦ (let h = is.holes (p + n) pos in let i = h.inside in omega arith) | inr none ↦ omega arith ]
 
     new_free : (u : ℕ) → b ≤ u → u < p + n + hole_at t (p + n) → with_span p n free u ≡ true
-    new_free u low high =
-        elim (cases_lt u p) [
-          | inl lt ↦ with_free free p n u (free_from u low lt)
-          | inr ge ↦ elim (cases_lt u (p + n)) [
-            | inl lt ↦ with_in free p n u (ge, lt)
-            | inr over ↦ with_free free p n u (let h = is.holes (p + n) (omega arith) in h.all_free u over high)
-          ]
-        ]
+    new_free u low high = search arith
 
     one : IsHole (with_span p n free) s b
     one =

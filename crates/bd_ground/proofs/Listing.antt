@@ -8,8 +8,7 @@ use Rattle.bd_ground.specs.Holes.{holes_in, Spaced, Covered, AreHoles}
 use Rattle.bd_ground.proofs.Tiling.{apart}
 
 positive : (n : ℕ) → (n ≡ 0 → ⊥) → 0 < n
-positive zero ne = absurd (ne refl)
-positive (suc n) ne = omega arith
+positive n ne = search arith
 
 module _ (free : ℕ → Bool) (t : Spans) (is : Tiles free t) where
   -- these are the numbers from unit i on

@@ -15,15 +15,7 @@ part_has P xs i j k d all end from to =
 -- where a number is written and its part's is made anew
 pub below_set : (numbers parts : List ℕ) (i n g : ℕ) → AreBelow numbers parts → i / 64 < length parts
     → ((j : ℕ) → j / 64 ≡ i / 64 → get_or (set numbers i n) j 0 ≤ g) → AreBelow (set numbers i n) (set parts (i / 64) g)
-below_set numbers parts i n g below lt made j =
-    elim (cases_eq (j / 64) (i / 64)) [
-      | inl here ↦ (
-          let at : get_or (set parts (i / 64) g) (j / 64) 0 ≡ g = rw here (get_or-set_same parts (i / 64) g 0 lt) in
-          rw at (made j here))
-      | inr apart ↦ (
-          let other : j ≡ i → ⊥ = λ e. apart (ap (λ (k : ℕ). k / 64) e) in
-          rw (get_or-set_other numbers i j n 0 other, get_or-set_other parts (i / 64) (j / 64) g 0 apart) (below j))
-    ]
+below_set numbers parts i n g below lt made j = search (arith, get_or-set_same, get_or-set_other)
 
 pub below_same : (xs ys ps qs : List ℕ) → ((j : ℕ) → get_or ys j 0 ≡ get_or xs j 0) → ((j : ℕ) → get_or qs j 0 ≡ get_or ps j 0) → AreBelow xs ps → AreBelow ys qs
 below_same xs ys ps qs s t below j = rw (s j, t (j / 64)) (below j)
@@ -50,12 +42,4 @@ pub below_first : (numbers parts wholes : List ℕ) (n w p k : ℕ) → ArePeaks
     → ((j : ℕ) → w * 64 ≤ j → j < p → get_or parts j 0 < n)
     → ((j : ℕ) → p * 64 ≤ j → j < k → get_or numbers j 0 < n)
     → (j : ℕ) → j < k → get_or numbers j 0 < n
-below_first numbers parts wholes n w p k is whole part number j lt =
-    let in_part : (i : ℕ) → i < p → get_or parts i 0 < n = λ i before. elim (cases_lt i (w * 64)) [
-      | inr ge ↦ part i ge before
-      | inl less ↦ (let a = is.upper i in let b = whole (i / 64) (omega arith) (omega arith) in omega arith)
-    ] in
-    elim (cases_lt j (p * 64)) [
-      | inr ge ↦ number j ge lt
-      | inl less ↦ (let a = is.lower j in let b = in_part (j / 64) (omega arith) in omega arith)
-    ]
+below_first numbers parts wholes n w p k is whole part number j lt = search arith
