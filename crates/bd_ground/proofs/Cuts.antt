@@ -1,9 +1,6 @@
 -- What is taken off a hole or the tail.
-use Rattle.std.proofs.Common.{◌≡◌, ℕ, ◌+◌, ◌-◌, ◌<◌, ◌≤◌, Bool, true, length, get_or, sym, ◌∙◌, subst, arith, inl, inr, ◌⊎◌}
-use Rattle.std.proofs.lemmas.Bool.{cases_eq, cases_order}
-use Rattle.bd_ground.specs.declared.spans.Spans.{Spans}
-use Rattle.bd_ground.specs.Tiles.{hole_at, IsHole, IsCovered, Tiles, without}
-use Rattle.bd_ground.proofs.Bits.{IsOut, without_out, without_in, without_false, without_true}
+use Rattle.std.proofs.Common.{◌≡◌, ℕ, ◌+◌, ◌-◌, ◌<◌, ◌≤◌, Bool, true, length, get_or, arith, ◌⊎◌}
+use Rattle.bd_ground.specs.{declared.spans.Spans.{Spans}, Tiles.{hole_at, IsHole, IsCovered, Tiles, without}}
 use Rattle.bd_ground.proofs.Tiling.{apart}
 
 -- a hole loses its first n units

@@ -1,9 +1,7 @@
 -- What parts are bounded by, where a number is written or more come.
-use Rattle.std.proofs.Common.{◌≡◌, ℕ, ◌+◌, ◌-◌, ◌*◌, ◌/◌, ◌<◌, ◌≤◌, List, length, get_or, set, ap, ◌∙◌, subst, arith, inl, inr, All}
+use Rattle.std.proofs.Common.{◌≡◌, ℕ, ◌+◌, ◌-◌, ◌*◌, ◌/◌, ◌<◌, ◌≤◌, List, length, get_or, set, ap, ◌∙◌, subst, arith, All}
 use Rattle.std.specs.List.{between}
-use Rattle.std.proofs.lemmas.Bool.{cases_lt, cases_eq}
-use Rattle.std.proofs.lemmas.List.{get_or-set_same, get_or-set_other, length-set}
-use Rattle.std.proofs.lemmas.List.Edits.{length-between, get_or-between}
+use Rattle.std.proofs.{lemmas.List.{get_or-set_same, get_or-set_other, length-set}, lemmas.List.Edits.{length-between, get_or-between}}
 use Rattle.bd_ground.specs.Peaks.{AreBelow, ArePeaks}
 
 -- what holds of each of a part holds at its indices
@@ -24,17 +22,7 @@ pub peaks_set : (numbers parts wholes : List ℕ) (i n g h : ℕ) → ArePeaks n
     → ((j : ℕ) → j / 64 ≡ i / 64 → get_or (set numbers i n) j 0 ≤ g)
     → ((j : ℕ) → j / 64 ≡ i / 64 / 64 → get_or (set parts (i / 64) g) j 0 ≤ h)
     → ArePeaks (set numbers i n) (set parts (i / 64) g) (set wholes (i / 64 / 64) h)
-peaks_set numbers parts wholes i n g h p lt made more =
-    let long = p.long in
-    let longer = p.longer in
-    let a : i / 64 < length parts = omega arith in
-    let b : i / 64 / 64 < length wholes = omega arith in
-    record {
-      lower = below_set numbers parts i n g p.lower a made;
-      upper = below_set parts wholes (i / 64) g h p.upper b more;
-      long = rw (length-set, length-set) p.long;
-      longer = rw (length-set, length-set) p.longer;
-    }
+peaks_set numbers parts wholes i n g h p lt made more = grind (arith, below_set, length-set)
 
 -- behind which whole, in it behind which part, and in it behind which number the first is
 pub below_first : (numbers parts wholes : List ℕ) (n w p k : ℕ) → ArePeaks numbers parts wholes

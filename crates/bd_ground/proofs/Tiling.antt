@@ -1,9 +1,7 @@
 -- Holes and tail as what is free: which units they have, and where the first n free ones in a row begin.
-use Rattle.std.proofs.Common.{◌≡◌, ℕ, ◌+◌, ◌-◌, ◌<◌, ◌≤◌, Bool, true, subst, sym, ◌∙◌, arith, inl, inr}
-use Rattle.std.proofs.lemmas.Bool.{cases_lt, cases_eq}
-use Rattle.bd_ground.specs.declared.spans.Spans.{Spans}
-use Rattle.bd_ground.specs.Tiles.{hole_at, Tiles, IsRun, IsLeastRun, Begins}
-use Rattle.bd_ground.proofs.Bits.{clash}
+use Rattle.std.proofs.Common.{◌≡◌, ℕ, ◌+◌, ◌<◌, ◌≤◌, Bool, subst, arith, inl, inr}
+use Rattle.std.proofs.lemmas.Bool.{cases_lt}
+use Rattle.bd_ground.specs.{declared.spans.Spans.{Spans}, Tiles.{hole_at, Tiles, IsRun, IsLeastRun, Begins}}
 
 module _ (free : ℕ → Bool) (t : Spans) (is : Tiles free t) where
   -- no two holes touch
