@@ -1,41 +1,22 @@
 -- The windows of all live processes through each change.
-use Rattle.std.proofs.Common.{◌≡◌, ◌≢◌, ℕ, ◌+◌, ◌<◌, ◌≤◌, Bool, true, false, cond, List, [], ◌∷◌, ◌++◌, length, get_or, set, map, refl, ap, sym, ◌∙◌, arith, subst, All, eq-eqb, ne_eqb, Some, None, Ok, Err}
-use Rattle.std.specs.Prelude.{◌==◌, not, filter, find, Option, MatchOption, option_copied, option_map, IfOk, IfSome, Result}
+use Rattle.std.proofs.Common.{◌≡◌, ◌≢◌, ℕ, ◌+◌, ◌<◌, ◌≤◌, Bool, true, false, cond, List, [], ◌∷◌, ◌++◌, length, get_or, set, map, refl, ap, sym, ◌∙◌, arith, subst, All, eq-eqb, ne_eqb, Some, None}
+use Rattle.std.specs.{Prelude.{◌==◌, not, filter, find, Option, MatchOption, option_copied, option_map, IfOk, IfSome, Result}, Option.{is_some}}
 use denote.Ref.{Bor}
-use Rattle.std.specs.Option.{is_some}
 use Rattle.bd_uapi.specs.declared.fault.Cause.{Cause}
-use Rattle.std.proofs.lemmas.Bool.{false≢true, eqb-true}
-use Rattle.std.proofs.lemmas.List.{map_push, map-set, get_or-map, get_or-set_same, length-map}
-use Rattle.std.proofs.lemmas.List.Elements.{All-filter, All-map, All-weaker}
-use Rattle.std.proofs.lemmas.Option.{slice_get_read}
-use Rattle.std.proofs.Math.Seq.{map-set_same}
+use Rattle.std.proofs.{lemmas.Bool.{false≢true, eqb-true}, lemmas.List.{map_push, map-set, get_or-map, get_or-set_same, length-map}}
+use Rattle.std.proofs.{lemmas.List.Elements.{All-filter, All-map, All-weaker}, lemmas.Option.{slice_get_read}, Math.Seq.{map-set_same}}
 use Rattle.std.proofs.Math.ListN as list
-use Rattle.bd_keys.specs.declared.map.WordMap.{WordMap}
-use Rattle.bd_keys.specs.Look.{look}
-use Rattle.bd_space.specs.declared.space.Process.{Process}
-use Rattle.bd_space.specs.declared.space.Buffer.{Buffer}
-use Rattle.bd_space.specs.Words.{changed}
-use Rattle.bd_space.specs.Seats.{lives_in, process_in}
-use Rattle.bd_space.specs.Windows.{buffers_of}
-use Rattle.bd_space.specs.Freeing.{is_made_at}
-use Rattle.bd_space.specs.Returns.{buffer_in}
-use Rattle.bd_space.specs.ReadItems.{hand_out, handed_buffers}
-use Rattle.bd_keys.proofs.Rising.{Rising, distinct, find_at}
-use Rattle.bd_keys.proofs.Found.{any_some, found_has}
+use Rattle.bd_keys.specs.{declared.map.WordMap.{WordMap}, Look.{look}}
+use Rattle.bd_space.specs.{declared.space.Process.{Process}, declared.space.Buffer.{Buffer}, Words.{changed}, Seats.{lives_in, process_in}, Windows.{buffers_of}}
+use Rattle.bd_space.specs.{Freeing.{is_made_at}, Returns.{buffer_in}, ReadItems.{hand_out, handed_buffers}}
+use Rattle.bd_keys.proofs.{Rising.{Rising, distinct, find_at}, Found.{any_some, found_has}}
 use Rattle.bd_space.proofs.Keyed.{changed_at, changed_none}
-use Rattle.bd_buffers.specs.declared.window.Window.{Window}
-use Rattle.bd_buffers.specs.declared.owned.OwnedWindow.{OwnedWindow}
-use Rattle.bd_buffers.specs.declared.windows.Windows.{Windows}
-use Rattle.bd_buffers.specs.Homes.{home_key, AreHomes, Forgets}
-use Rattle.bd_buffers.specs.Owners.{AreInOrder, StandsAt}
-use Rattle.bd_buffers.specs.Window as single
+use Rattle.bd_buffers.specs.{declared.window.Window.{Window}, declared.owned.OwnedWindow.{OwnedWindow}, declared.windows.Windows.{Windows}}
+use Rattle.bd_buffers.specs.{Homes.{home_key, AreHomes, Forgets}, Owners.{AreInOrder, StandsAt}}
 use Rattle.bd_buffers.specs.WindowsStand.{ProcessWindow, seen, window_of, with_buffers, is_owned_by, is_of, AreMade, WindowsOf, Stands, buffers_held, CanHoldIn, made_of_buffer}
-use Rattle.bd_buffers.proofs.Changes.{none_left}
-use Rattle.bd_buffers.proofs.Homes.{homes_handed, homes_closed, home_finds, found_kept}
-use Rattle.bd_buffers.proofs.Made.{kept_some, look_found, same_keys}
-use Rattle.bd_buffers.proofs.InSpace.{added, added_elsewhere, kept_in, handed_in, others_stay}
-use Rattle.bd_buffers.proofs.Owners.{no_process}
-use Rattle.bd_buffers.proofs.Standing.{found_of, filtered_of}
+use Rattle.bd_buffers.specs.Window as single
+use Rattle.bd_buffers.proofs.{Changes.{none_left}, Homes.{homes_handed, homes_closed, home_finds, found_kept}, Made.{kept_some, look_found, same_keys}}
+use Rattle.bd_buffers.proofs.{InSpace.{added, added_elsewhere, kept_in, handed_in, others_stay}, Owners.{no_process}, Standing.{found_of, filtered_of}}
 use Rattle.bd_buffers.proofs.Order.{lives_below, process_made, buffer_made, made_kept, made_handed, process_gone}
 
 -- a window that stands for these buffers now
@@ -48,25 +29,11 @@ seen_as w old f e is = let size = is.size_is in let buffers = is.buffers_are in 
 one_window : (f : List Buffer → List Buffer) (bs new : List Buffer) (p : ℕ) → f (buffers_of bs p) ≡ buffers_of new p → ((r : ℕ) → r ≢ p → buffers_of bs r ≡ buffers_of new r) → (ps : List Process)
     → changed (is_of p) (with_buffers f) (map (window_of bs) ps) ≡ map (window_of new) ps
 one_window f bs new p own other [] = refl
-one_window f bs new p own other (q ∷ ps) =
-    let head = first (q.made == p) refl in
-    let rest = one_window f bs new p own other ps in
-    cc
-  where
-    window : List Buffer → ProcessWindow
-    window xs = record { owner = q.made; size = q.window; buffers = xs }
-
-    first : (b : Bool) → (q.made == p) ≡ b → cond b (with_buffers f (window_of bs q)) (window_of bs q) ≡ window_of new q
-    first true e = let same = eqb-true q.made p e in ap (λ r. window (f (buffers_of bs r))) same ∙ ap window own ∙ ap (λ r. window (buffers_of new r)) (sym same)
-    first false e = ap window (other q.made (λ same. absurd (false≢true (sym e ∙ eq-eqb q.made p same))))
+one_window f bs new p own other (q ∷ ps) = grind (arith, eqb-true, eq-eqb, one_window f bs new p own other ps)
 
 pub one_changes : (t u : Windows) (bound after p : ℕ) (ps : List Process) (bs new : List Buffer) (f : List Buffer → List Buffer) → map seen u.windows ≡ changed (is_of p) (with_buffers f) (map seen t.windows)
     → f (buffers_of bs p) ≡ buffers_of new p → ((r : ℕ) → r ≢ p → buffers_of bs r ≡ buffers_of new r) → AreMade after ps new → AreHomes u.homes new → WindowsOf t bound ps bs → WindowsOf u after ps new
-one_changes t u bound after p ps bs new f e own other made homes stands = record {
-  windows_are = e ∙ ap (changed (is_of p) (with_buffers f)) stands.windows_are ∙ one_window f bs new p own other ps;
-  made = made;
-  homes_are = homes;
-}
+one_changes t u bound after p ps bs new f e own other made homes stands = grind (arith, one_window)
 
 -- ---- a process more
 
@@ -74,9 +41,7 @@ not_received : (b : Buffer) (p : ℕ) → b.receiver < p → (b.receiver == p) �
 not_received b p lt = ne_eqb b.receiver p (λ e. absurd (omega (arith, e)))
 
 none_for : (ps : List Process) (bound : ℕ) (bs : List Buffer) → All (λ q. q.made < bound) ps → All (λ (b : Buffer). lives_in ps b.receiver ≡ true) bs → buffers_of bs bound ≡ []
-none_for ps bound bs before all =
-    none_left (λ b. b.receiver == bound) bs (All-weaker (λ (b : Buffer). lives_in ps b.receiver ≡ true) (λ b. (b.receiver == bound) ≡ false)
-    (λ b lives. not_received b bound (lives_below ps bound b.receiver before lives)) bs all)
+none_for ps bound bs before all = search (arith, none_left, All-weaker, not_received, lives_below)
 
 pub opened : (t u : Windows) (bound : ℕ) (ps : List Process) (bs : List Buffer) (q : Process) (w : OwnedWindow) → q.made ≡ bound → w.owner ≡ q.made → Stands w.window q.window []
     → u.windows ≡ t.windows ++ w ∷ [] → u.homes ≡ t.homes → WindowsOf t bound ps bs → WindowsOf u (bound + 1) (ps ++ q ∷ []) bs
@@ -126,9 +91,7 @@ close_all bs p (q ∷ ps) = first (q.made == p) refl (close_all bs p ps)
 
     first : (b : Bool) → (q.made == p) ≡ b → left ≡ map (window_of others) ended → cond (not b) (window_of bs q ∷ left) left ≡ map (window_of others) (cond (not b) (q ∷ ended) ended)
     first true e rest = rest
-    first false e rest =
-        let same = others_stay bs p q.made (λ same. absurd (false≢true (sym e ∙ eq-eqb q.made p same))) in
-        ap (λ xs. record { owner = q.made; size = q.window; buffers = xs } ∷ left) (sym same) ∙ ap (λ xs. window_of others q ∷ xs) rest
+    first false e rest = grind (arith, others_stay, eq-eqb)
 
 pub closed : (t u : Windows) (bound p : ℕ) (ps : List Process) (bs : List Buffer) → u.windows ≡ filter (λ w. not (is_owned_by p w)) t.windows
     → AreHomes u.homes (filter (λ b. not (b.receiver == p)) bs) → WindowsOf t bound ps bs → WindowsOf u bound (filter (λ q. not (q.made == p)) ps) (filter (λ b. not (b.receiver == p)) bs)
@@ -222,25 +185,18 @@ left_at t p i w x is own =
 -- the windows are seen as before where one is changed that still stands for the same
 pub stay_seen : (ws : List OwnedWindow) (i : ℕ) (w : OwnedWindow) (new : Window) → w ≡ get_or ws i w → ((size : ℕ) (bs : List Buffer) → Stands w.window size bs → Stands new size bs)
     → map seen (set ws i (record { owner = w.owner; window = new })) ≡ map seen ws
-stay_seen ws i w new at kept =
-    let x : OwnedWindow = record { owner = w.owner; window = new } in
-    let same : seen x ≡ seen w = seen_as x w (λ bs. bs) refl (kept w.window.size w.window.buffers (record { size_is = refl; buffers_are = refl })) in
-    map-set_same seen ws i x w (same ∙ ap seen at)
+stay_seen ws i w new at kept = search (arith, map-set_same)
 
 pub stay : (t u : Windows) (bound : ℕ) (ps : List Process) (bs : List Buffer) → map seen u.windows ≡ map seen t.windows → AreHomes u.homes bs → WindowsOf t bound ps bs → WindowsOf u bound ps bs
 stay t u bound ps bs e homes stands = record { windows_are = e ∙ stands.windows_are; made = stands.made; homes_are = homes }
 
 pub can_hold_at : (t : Windows) (p i : ℕ) (w : OwnedWindow) (one_way : Bool) (size start : ℕ) → find (is_owned_by p) t.windows ≡ Some w
     → CanHoldIn (find (is_of p) (map seen t.windows)) one_way size start → CanHoldIn (Some (seen w)) one_way size start
-can_hold_at t p i w one_way size start found can =
-    let P : Option ProcessWindow → Type 0 = λ o. CanHoldIn o one_way size start in
-    subst P (found_of seen (is_of p) t.windows ∙ ap (option_map seen) found) can
+can_hold_at t p i w one_way size start found can = grind (arith, found_of)
 
 pub can_hold_back : (t : Windows) (p : ℕ) (w : OwnedWindow) (one_way : Bool) (size start : ℕ) → find (is_owned_by p) t.windows ≡ Some w
     → CanHoldIn (Some (seen w)) one_way size start → CanHoldIn (find (is_of p) (map seen t.windows)) one_way size start
-can_hold_back t p w one_way size start found can =
-    let P : Option ProcessWindow → Type 0 = λ o. CanHoldIn o one_way size start in
-    subst P (sym (found_of seen (is_of p) t.windows ∙ ap (option_map seen) found)) can
+can_hold_back t p w one_way size start found can = grind (arith, found_of)
 
 -- ---- a buffer more
 
@@ -297,9 +253,9 @@ looked_up t bound made p ps bs o stands home found =
 
 -- the homes left where those of one process's buffers go
 pub homes_left : (t : Windows) (bound p : ℕ) (ps : List Process) (bs : List Buffer) (left : WordMap ℕ) → WindowsOf t bound ps bs
-    → Forgets (buffers_held (find (is_owned_by p) t.windows)) t.homes left → AreHomes left (filter (λ b. not (b.receiver == p)) bs)
+    → Forgets (map made_of_buffer (buffers_held (find (is_owned_by p) t.windows))) t.homes left → AreHomes left (filter (λ b. not (b.receiver == p)) bs)
 homes_left t bound p ps bs left stands gone =
-    let P : List Buffer → Type 0 = λ xs. Forgets xs t.homes left in
+    let P : List Buffer → Type 0 = λ xs. Forgets (map made_of_buffer xs) t.homes left in
     homes_closed t.homes left bs p stands.made.buffers_in_order stands.homes_are (subst P (held t bound p ps bs stands) gone)
 
 -- ---- a change of one window
@@ -329,23 +285,16 @@ one_missed ws p f none = sym (changed_none (λ (y : ProcessWindow). y.owner) (wi
 
 pub can_hold_nowhere : (t : Windows) (p : ℕ) (one_way : Bool) (size start : ℕ) → find (is_owned_by p) t.windows ≡ None
     → CanHoldIn (find (is_of p) (map seen t.windows)) one_way size start → ⊥
-can_hold_nowhere t p one_way size start missed can =
-    let P : Option ProcessWindow → Type 0 = λ o. CanHoldIn o one_way size start in
-    subst P (found_of seen (is_of p) t.windows ∙ ap (option_map seen) missed) can
+can_hold_nowhere t p one_way size start missed can = grind (arith, found_of)
 
 pub fits_whole : (size : ℕ) (bs : List Buffer) (n : ℕ) (r : Result ℕ Cause) → single.IsWindow size bs → IfOk r (λ p. single.IsLeastFree size bs n p) → IfOk r (λ p. n ≤ 4194304)
-fits_whole size bs n (Ok p) is least = let inside = least.room.inside in let small = is.small in omega (arith, inside, small)
-fits_whole size bs n (Err x) is least = tt
+fits_whole size bs n r is least = search arith
 
 -- what is read hands over the buffer that was made there
 pub handed_by : (t : Windows) (bound : ℕ) (ps : List Process) (bs : List Buffer) (o : Option Buffer) (made : ℕ) → Some made ≡ option_map made_of_buffer o
     → WindowsOf t bound ps (changed (is_made_at made) hand_out bs) → WindowsOf t bound ps (handed_buffers bs o)
-handed_by t bound ps bs None made e stands = cc
-handed_by t bound ps bs (Some b) made e stands =
-    let same : made ≡ b.made = cc in
-    subst (λ m. WindowsOf t bound ps (changed (is_made_at m) hand_out bs)) same stands
+handed_by t bound ps bs o made e stands = search arith
 
 pub none_handed_by : (t : Windows) (bound : ℕ) (ps : List Process) (bs : List Buffer) (o : Option Buffer) → None ≡ option_map made_of_buffer o → WindowsOf t bound ps bs
     → WindowsOf t bound ps (handed_buffers bs o)
-none_handed_by t bound ps bs None e stands = stands
-none_handed_by t bound ps bs (Some b) e stands = cc
+none_handed_by t bound ps bs o e stands = search arith

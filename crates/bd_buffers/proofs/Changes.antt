@@ -1,5 +1,5 @@
 -- Lists with some elements changed or left out.
-use Rattle.std.proofs.Common.{◌≡◌, ◌∙◌, zero, suc, Bool, true, false, cond, List, [], ◌∷◌, refl, ap, arith, All, Ok, Err}
+use Rattle.std.proofs.Common.{◌≡◌, Bool, true, false, cond, List, [], ◌∷◌, refl, arith, All}
 use Rattle.std.specs.Prelude.{AllPairs, Result, OnOk, OnErr, filter}
 use Rattle.std.proofs.lemmas.List.Elements.{All-cons, All-head, All-tail}
 use Rattle.bd_space.specs.Words.{changed}
@@ -8,39 +8,30 @@ use Rattle.bd_keys.proofs.Rising.{pairs_head, pairs_tail}
 -- what each element keeps where those that pass are changed
 pub All_changed : {A : Type 0} (p : A → Bool) (f : A → A) (P : A → Type 0) → ((x : A) → P x → P (f x)) → (xs : List A) → All P xs → All P (changed p f xs)
 All_changed p f P k [] all = all
-All_changed p f P k (x ∷ xs) all =
-    let head : P (cond (p x) (f x) x) = elim (p x) as (λ b. P (cond b (f x) x)) [ true ↦ k x (All-head P x xs all) | false ↦ All-head P x xs all ] in
-    All-cons P (cond (p x) (f x) x) (changed p f xs) head (All_changed p f P k xs (All-tail P x xs all))
+All_changed p f P k (x ∷ xs) all = grind (arith, All-head, All-cons, All-tail, All_changed p f P k xs (All-tail P x xs all))
 
 -- nothing is left where none passes
 pub none_left : {A : Type 0} (p : A → Bool) (xs : List A) → All (λ x. p x ≡ false) xs → filter p xs ≡ []
 none_left p [] all = refl
-none_left p (x ∷ xs) all =
-    ap (λ t. cond t (x ∷ filter p xs) (filter p xs)) (All-head (λ y. p y ≡ false) x xs all) ∙ none_left p xs (All-tail (λ y. p y ≡ false) x xs all)
+none_left p (x ∷ xs) all = grind (arith, All-head, All-tail, none_left p xs (All-tail (λ y. p y ≡ false) x xs all))
 
 -- ---- answers
 
 module _ {A E : Type 0} (P Q : Type 0) (f : P → Q) where
   pub on_ok : (r : Result A E) → OnOk r P → OnOk r Q
-  on_ok (Ok x) p = f p
-  on_ok (Err e) p = tt
+  on_ok r p = search arith
 
   pub on_err : (r : Result A E) → OnErr r P → OnErr r Q
-  on_err (Ok x) p = tt
-  on_err (Err e) p = f p
+  on_err r p = search arith
 
 pub refused : {A E : Type 0} (r : Result A E) (P : Type 0) → P → OnErr r P
-refused (Ok x) P p = tt
-refused (Err e) P p = p
+refused r P p = search arith
 
 -- ---- pairs
 
 module _ {A : Type 0} (R : A → A → Type 0) where
   pub pairs_cons : (x : A) (xs : List A) → All (R x) xs → AllPairs R xs → AllPairs R (x ∷ xs)
-  pairs_cons x xs all pairs zero zero d lt h = absurd (omega arith)
-  pairs_cons x xs all pairs zero (suc j) d lt h = all j d (omega arith)
-  pairs_cons x xs all pairs (suc i) zero d lt h = absurd (omega arith)
-  pairs_cons x xs all pairs (suc i) (suc j) d lt h = pairs i j d (omega arith) (omega arith)
+  pairs_cons x xs all pairs h2 h3 d lt h = search arith
 
   pub pairs_changed : (p : A → Bool) (f : A → A) → ((x y : A) → R x y → R (f x) y) → ((x y : A) → R x y → R x (f y)) → (xs : List A) → AllPairs R xs → AllPairs R (changed p f xs)
   pairs_changed p f left right [] pairs = pairs

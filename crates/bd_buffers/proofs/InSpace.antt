@@ -1,16 +1,9 @@
 -- How the live buffers of one window go with all those of a space, for a table in which the window of each live process p
 -- stands for `buffers_of buffers p`.
-use Rattle.std.proofs.Common.{◌≡◌, ◌≢◌, ℕ, Bool, true, false, cond, List, [], ◌∷◌, ◌++◌, Some, refl, ap, sym, ◌∙◌, eq-eqb, ne_eqb}
+use Rattle.std.proofs.Common.{arith, ◌≡◌, ◌≢◌, ℕ, Bool, true, cond, List, [], ◌∷◌, ◌++◌, refl, ap, sym, ◌∙◌, eq-eqb, ne_eqb}
 use Rattle.std.specs.Prelude.{◌==◌, ◌&&◌, not, find, filter}
-use Rattle.std.proofs.lemmas.List.{append-nil}
-use Rattle.std.proofs.Math.Bool.{and_comm, and-false}
-use Rattle.std.proofs.lemmas.Bool.{eqb-true}
-use Rattle.std.proofs.lemmas.List.Elements.{filter-append, filter_agree}
-use Rattle.bd_space.specs.declared.space.Buffer.{Buffer}
-use Rattle.bd_space.specs.Words.{changed}
-use Rattle.bd_space.specs.Windows.{buffers_of}
-use Rattle.bd_space.specs.Freeing.{pointer, is_made_at}
-use Rattle.bd_space.specs.ReadItems.{hand_out}
+use Rattle.std.proofs.{lemmas.List.{append-nil}, Math.Bool.{and_comm, and-false}, lemmas.Bool.{eqb-true}, lemmas.List.Elements.{filter-append, filter_agree}}
+use Rattle.bd_space.specs.{declared.space.Buffer.{Buffer}, Words.{changed}, Windows.{buffers_of}, Freeing.{pointer, is_made_at}, ReadItems.{hand_out}}
 use Rattle.bd_buffers.specs.Buffer.{at_pointer}
 
 abbrev is_in : ℕ → Buffer → Bool
@@ -21,45 +14,25 @@ is_in p b = b.receiver == p
 module _ {A : Type 0} where
   find_filter : (q r : A → Bool) (xs : List A) → find r (filter q xs) ≡ find (λ x. q x && r x) xs
   find_filter q r [] = refl
-  find_filter q r (x ∷ xs) =
-      elim (q x) as (λ b. find r (cond b (x ∷ filter q xs) (filter q xs)) ≡ cond (b && r x) (Some x) (find (λ y. q y && r y) xs)) [
-        | true ↦ ap (cond (r x) (Some x)) (find_filter q r xs)
-        | false ↦ find_filter q r xs
-      ]
+  find_filter q r (x ∷ xs) = grind (arith, find_filter q r xs)
 
   filter_at : (q : A → Bool) (x : A) (xs : List A) (b : Bool) → q x ≡ b → filter q (x ∷ xs) ≡ cond b (x ∷ filter q xs) (filter q xs)
   filter_at q x xs b e = ap (λ c. cond c (x ∷ filter q xs) (filter q xs)) e
 
   filter_both : (q r : A → Bool) (xs : List A) → filter q (filter r xs) ≡ filter (λ x. r x && q x) xs
   filter_both q r [] = refl
-  filter_both q r (x ∷ xs) =
-      elim (r x) as (λ b. filter q (cond b (x ∷ filter r xs) (filter r xs)) ≡ cond (b && q x) (x ∷ filter (λ y. r y && q y) xs) (filter (λ y. r y && q y) xs)) [
-        | true ↦ ap (λ ys. cond (q x) (x ∷ ys) ys) (filter_both q r xs)
-        | false ↦ filter_both q r xs
-      ]
+  filter_both q r (x ∷ xs) = grind (arith, filter_both q r xs)
 
   filter_swap : (q r : A → Bool) (xs : List A) → filter q (filter r xs) ≡ filter r (filter q xs)
   filter_swap q r xs = filter_both q r xs ∙ filter_agree (λ x. r x && q x) (λ x. q x && r x) (λ x. and_comm (r x) (q x)) xs ∙ sym (filter_both r q xs)
 
   pub filter_changed : (q p : A → Bool) (f : A → A) → ((x : A) → q (f x) ≡ q x) → (xs : List A) → filter q (changed p f xs) ≡ changed p f (filter q xs)
   filter_changed q p f same [] = refl
-  filter_changed q p f same (x ∷ xs) =
-      let rest = filter_changed q p f same xs in
-      let y = cond (p x) (f x) x in
-      let stays : q y ≡ q x = elim (p x) as (λ b. q (cond b (f x) x) ≡ q x) [ true ↦ same x | false ↦ refl ] in
-      filter_at q y (changed p f xs) (q x) stays
-      ∙ elim (q x) as (λ b. cond b (y ∷ filter q (changed p f xs)) (filter q (changed p f xs)) ≡ changed p f (cond b (x ∷ filter q xs) (filter q xs))) [
-        | true ↦ ap (λ zs. y ∷ zs) rest
-        | false ↦ rest
-      ]
+  filter_changed q p f same (x ∷ xs) = grind (arith, filter_at, filter_changed q p f same xs)
 
   -- what goes, goes where the others don't pass anyway
   pub filter_kept : (q r : A → Bool) → ((x : A) → q x ≡ true → r x ≡ true) → (xs : List A) → filter q (filter r xs) ≡ filter q xs
-  filter_kept q r both xs = filter_both q r xs ∙ filter_agree (λ x. r x && q x) q (λ x. by (q x) (r x) (both x)) xs
-    where
-      by : (a b : Bool) → (a ≡ true → b ≡ true) → (b && a) ≡ a
-      by true b h = ap (λ c. c && true) (h refl)
-      by false b h = and-false b
+  filter_kept q r both xs = grind (arith, filter_both, filter_agree, and-false)
 
 -- ---- what is found in a window by a pointer
 
@@ -72,8 +45,7 @@ pub added : (buffers : List Buffer) (b : Buffer) (p : ℕ) → b.receiver ≡ p 
 added buffers b p own = filter-append (is_in p) buffers (b ∷ []) ∙ ap (λ xs. buffers_of buffers p ++ xs) (filter_at (is_in p) b [] true (eq-eqb b.receiver p own))
 
 pub added_elsewhere : (buffers : List Buffer) (b : Buffer) (p : ℕ) → b.receiver ≢ p → buffers_of (buffers ++ b ∷ []) p ≡ buffers_of buffers p
-added_elsewhere buffers b p other =
-    filter-append (is_in p) buffers (b ∷ []) ∙ ap (λ xs. buffers_of buffers p ++ xs) (filter_at (is_in p) b [] false (ne_eqb b.receiver p other)) ∙ append-nil (buffers_of buffers p)
+added_elsewhere buffers b p other = search (arith, filter-append, append-nil)
 
 -- ---- buffers that go, and one that is handed out
 

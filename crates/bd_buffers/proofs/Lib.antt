@@ -15,4 +15,3 @@ pub mod Owners
 pub mod AllWindows
 pub mod WindowLaws
 pub mod Marks
-pub mod Nexts

@@ -1,28 +1,19 @@
 -- Each live buffer is found by where it begins, through each change.
-use Rattle.std.proofs.Common.{◌≡◌, ℕ, ◌-◌, ◌/◌, ◌%◌, ◌<◌, false, cond, List, [], ◌∷◌, ◌++◌, get_or, refl, ap, sym, ◌∙◌, arith, All, inl, inr}
+use Rattle.std.proofs.{lemmas.Grind.{common_steps}, lemmas.Bool.{eqb-true}, lemmas.List.Elements.{All-push}}
+use Rattle.std.proofs.Common.{◌≡◌, ℕ, ◌-◌, ◌/◌, ◌%◌, ◌<◌, false, cond, List, [], ◌∷◌, ◌++◌, get_or, refl, ap, sym, ◌∙◌, arith, All}
 use Rattle.std.specs.Prelude.{find, Some, None, Option, option_map, slice_index}
-use Rattle.std.proofs.lemmas.Bool.{eqb-true}
-use Rattle.std.proofs.lemmas.List.Elements.{All-push}
-use Rattle.bd_space.specs.declared.space.Buffer.{Buffer}
-use Rattle.bd_space.specs.Freeing.{pointer, is_made_at}
-use Rattle.bd_space.specs.Returns.{buffer_in}
+use Rattle.bd_space.specs.{declared.space.Buffer.{Buffer}, Freeing.{pointer, is_made_at}, Returns.{buffer_in}}
 use Rattle.bd_keys.proofs.Found.{by_key, found_has, none_found}
-use Rattle.bd_buffers.specs.Buffer.{IsApart, IsPlaced, at_pointer}
-use Rattle.bd_buffers.specs.Window.{IsWindow, AreStarts}
-use Rattle.bd_buffers.specs.Rows.{kept}
-use Rattle.bd_buffers.proofs.Units.{filled}
+use Rattle.bd_buffers.specs.{Buffer.{IsApart, IsPlaced, at_pointer}, Window.{IsWindow, AreStarts}, Rows.{kept}}
 
 -- buffers that lie apart begin with different units
 units_differ : (p n size : ℕ) (b : Buffer) → p % 8 ≡ 0 → 0 < n → IsPlaced size b → IsApart p n b → b.start / 8 ≡ p / 8 → ⊥
-units_differ p n size b aligned pos placed (inl before) e = let a = placed.aligned in let full = filled size b placed in omega (arith, aligned, a, full, before, e)
-units_differ p n size b aligned pos placed (inr after) e = let a = placed.aligned in let full = filled size b placed in omega (arith, aligned, a, full, pos, after, e)
+units_differ p n size b aligned pos placed h e = search arith
 
 -- a buffer comes
 pub starts_noted : (size : ℕ) (bs : List Buffer) (b : Buffer) (old new : List ℕ) → IsWindow size bs → AreStarts bs old → b.start % 8 ≡ 0 → 0 < b.size → All (IsApart b.start b.size) bs
     → slice_index new (b.start / 8) ≡ b.made → ((j : ℕ) → (j ≡ b.start / 8 → ⊥) → slice_index new j ≡ slice_index old j) → AreStarts (bs ++ b ∷ []) new
-starts_noted size bs b old new window are aligned full apart at others =
-    All-push (λ (x : Buffer). slice_index new (x.start / 8) ≡ x.made) bs b
-    (λ k d lt. others ((get_or bs k d).start / 8) (units_differ b.start b.size size (get_or bs k d) aligned full (window.placed k d lt) (apart k d lt)) ∙ are k d lt) at
+starts_noted size bs b old new window are aligned full apart at others = grind (arith, common_steps, All-push, units_differ)
 
 -- the buffer that has a pointer is the one that was made where it is noted, if it has it
 pub by_start : (size p : ℕ) (bs : List Buffer) (starts : List ℕ) (o : Option Buffer) → IsWindow size bs → AreStarts bs starts

@@ -1,87 +1,32 @@
 -- What rows have, and what each change leaves of it.
-use Rattle.std.proofs.Common.{◌≡◌, ℕ, zero, suc, ◌-◌, ◌<◌, ◌≤◌, Bool, true, false, cond, List, [], ◌∷◌, ◌++◌, length, get_or, set, Option, Some, None, refl, ap, sym, ◌∙◌, subst, arith, All}
-use Rattle.std.specs.Prelude.{◌==◌, not, find, filter, AllPairs, MatchOption, option_map, unwrap_or}
-use Rattle.std.specs.List.{slice_get}
-use Rattle.std.specs.Option.{option_and_then, option_to_list}
-use Rattle.std.proofs.lemmas.Bool.{eqb-true, false≢true}
-use Rattle.std.proofs.lemmas.List.{append-nil, length_push, length-set, get_or_push}
-use Rattle.std.proofs.lemmas.List.Elements.{All-head, All-tail, All-cons, filter-append, filter_passes}
-use Rattle.std.proofs.lemmas.List.Quantifiers.{all_pairs_push}
-use Rattle.std.proofs.lemmas.List.Kept.{AllPairs-filter}
-use Rattle.std.proofs.lemmas.Option.{slice_get_within, get_or_from_slice_get, slice_get-get_or}
-use Rattle.std.proofs.Math.Seq.{map-set_same}
-use Rattle.bd_buffers.specs.declared.record.Record.{Record}
+use Rattle.std.proofs.lemmas.Grind.{common_steps}
+use Rattle.std.proofs.lemmas.{Bool.{le-leb, lt-leb}, List.{append-nil, length_push, length-map, get_or_push}, List.Kept.{AllPairs-filter}, List.Quantifiers.{all_pairs_push}}
+use Rattle.std.proofs.lemmas.List.Elements.{All-head, All-tail, filter-append, filter_passes}
+use Rattle.std.proofs.{lemmas.Option.{slice_get_within, get_or_from_slice_get, slice_get-get_or}, Math.{Seq.{take-suc, drop-cons}, ListN.{get_or-append}}}
+use Rattle.std.proofs.Common.{◌≡◌, ℕ, zero, suc, ◌+◌, ◌-◌, ◌<◌, ◌≤◌, Bool, true, false, cond, List, [], ◌∷◌, ◌++◌, length, get_or, set, take, drop, Option, Some, None, refl, ap, sym, ◌∙◌, subst, arith, All}
+use Rattle.std.specs.{Prelude.{not, find, filter, option_map, unwrap_or, nat_le}, List.{slice_get}, Option.{option_to_list}}
 use Rattle.bd_space.specs.Words.{changed}
-use Rattle.bd_keys.proofs.Rising.{pairs_head, pairs_tail, newest_all, distinct, find_none, filter_at, filter_none}
-use Rattle.bd_keys.proofs.Found.{found_has, none_found}
-use Rattle.bd_space.proofs.Keyed.{changed_at}
-use Rattle.bd_buffers.specs.Record.{is_record_at, hand_over, made_of_record}
-use Rattle.bd_buffers.specs.Rows.{lives, live, kept, in_row, ended, ends_empty, AreRows, IsTrimmed, IsWithout}
-use Rattle.bd_buffers.proofs.Changes.{none_left, pairs_cons}
-use Rattle.bd_buffers.proofs.InSpace.{filter_changed, filter_kept}
-use Rattle.bd_buffers.proofs.Made.{find_kept, kept_some, look_found, same_keys}
-
-abbrev IsEmpty : Record → Type 0
-IsEmpty r = lives r ≡ false
+use Rattle.bd_space.proofs.Keyed.{changed_at, length_changed, pairs_changed}
+use Rattle.bd_keys.proofs.Rising.{Rising, AllOthers, newest_all, distinct, find_none, find_at}
+use Rattle.bd_buffers.specs.{declared.record.Record.{Record}, Record.{is_record_at, record_in, hand_over, made_of_record}}
+use Rattle.bd_buffers.specs.Rows.{lives, live, live_places, kept, ended, ends_empty, AreRows, IsLiveRow}
+use Rattle.bd_buffers.proofs.{InSpace.{filter_changed, filter_kept}, Made.{find_kept}}
 
 abbrev is_empty : Record → Bool
 is_empty r = not (lives r)
 
--- ---- what a trim leaves
-
-pub trimmed_live : (old new : List Record) → IsTrimmed old new → live new ≡ live old
-trimmed_live old new is =
-    sym (ap live is.split ∙ filter-append lives new is.gone ∙ ap (λ bs. live new ++ bs) (none_left lives is.gone is.empty) ∙ append-nil (live new))
-
-module _ {A : Type 0} where
-  All_front : (P : A → Type 0) (xs ys : List A) → All P (xs ++ ys) → All P xs
-  All_front P [] ys all = λ k d h. absurd (omega arith)
-  All_front P (x ∷ xs) ys all = All-cons P x xs (All-head P x (xs ++ ys) all) (All_front P xs ys (All-tail P x (xs ++ ys) all))
-
-  pairs_front : (R : A → A → Type 0) (xs ys : List A) → AllPairs R (xs ++ ys) → AllPairs R xs
-  pairs_front R [] ys pairs = λ i j d lt h. absurd (omega arith)
-  pairs_front R (x ∷ xs) ys pairs =
-      pairs_cons R x xs (All_front (R x) xs ys (pairs_head R x (xs ++ ys) pairs)) (pairs_front R xs ys (pairs_tail R x (xs ++ ys) pairs))
-
-pub trimmed_rows : (old new : List Record) → AllPairs (λ a b. a.made < b.made) old → IsTrimmed old new → ends_empty new ≡ false → AreRows new
-trimmed_rows old new rising is ends = record {
-  in_order = pairs_front (λ (a : Record) (b : Record). a.made < b.made) new is.gone (subst (λ xs. AllPairs (λ (a : Record) (b : Record). a.made < b.made) xs) is.split rising);
-  ends = ends;
-}
-
--- none went
-pub trimmed_none : (rows : List Record) → IsTrimmed rows rows
-trimmed_none rows = record { gone = []; split = sym (append-nil rows); empty = λ k d h. absurd (omega arith) }
-
--- one more went
-pub trimmed_more : (old rows new : List Record) (r : Record) → IsTrimmed old rows → rows ≡ new ++ r ∷ [] → IsEmpty r → IsTrimmed old new
-trimmed_more old rows new r is split none = record {
-  gone = r ∷ is.gone;
-  split = is.split ∙ ap (λ xs. xs ++ is.gone) split ∙ regroup new;
-  empty = All-cons IsEmpty r is.gone none is.empty;
-}
-  where
-    regroup : (xs : List Record) → (xs ++ r ∷ []) ++ is.gone ≡ xs ++ r ∷ is.gone
-    regroup [] = refl
-    regroup (x ∷ xs) = ap (λ ys. x ∷ ys) (regroup xs)
+abbrev pub InOrder : List Record → Type 0
+InOrder rows = Rising made_of_record rows
 
 -- ---- the end
 
 -- the last row's buffer lives
 last_full : (rows : List Record) (r : Record) → ends_empty rows ≡ false → slice_get rows (length rows - 1) ≡ Some r → lives r ≡ true
-last_full rows r ends is = by (lives r) (sym (ap (λ o. unwrap_or (option_map is_empty o) false) is) ∙ ends)
-  where
-    by : (t : Bool) → not t ≡ false → t ≡ true
-    by true e = refl
-    by false e = absurd (false≢true (sym e))
+last_full rows r ends is = grind (arith, false, true)
 
 -- the last row is empty
-pub last_empty : (rows : List Record) (r : Record) → ends_empty rows ≡ true → slice_get rows (length rows - 1) ≡ Some r → IsEmpty r
-last_empty rows r ends is = by (lives r) (sym (ap (λ o. unwrap_or (option_map is_empty o) false) is) ∙ ends)
-  where
-    by : (t : Bool) → not t ≡ true → t ≡ false
-    by true e = absurd (false≢true e)
-    by false e = refl
+last_empty : (rows : List Record) (r : Record) → ends_empty rows ≡ true → slice_get rows (length rows - 1) ≡ Some r → lives r ≡ false
+last_empty rows r ends is = grind (arith, false, true)
 
 -- where every row has its buffer, so has the last
 ends_full : (rows : List Record) → All (λ (r : Record). lives r ≡ true) rows → ends_empty rows ≡ false
@@ -95,7 +40,7 @@ ends_full rows all = by (slice_get rows (length rows - 1)) refl
 -- ---- where all were made before
 
 -- what all live buffers have, that of a row has
-row_has : (P : Record → Type 0) (rows : List Record) (k : ℕ) (r : Record) → slice_get rows k ≡ Some r → lives r ≡ true → All P (live rows) → P r
+pub row_has : (P : Record → Type 0) (rows : List Record) (k : ℕ) (r : Record) → slice_get rows k ≡ Some r → lives r ≡ true → All P (live rows) → P r
 row_has P [] k r is t all = absurd (cc)
 row_has P (x ∷ rows) zero r is t all =
     let same : x ≡ r = cc in
@@ -119,35 +64,45 @@ rows_below (x ∷ rows) n is all =
 
 -- ---- what is found by its place
 
--- what a search among the rows answers is the row of what is looked for
-pub row_by : (n : ℕ) (rows : List Record) (o : Option ℕ) → AllPairs (λ a b. a.made < b.made) rows
-    → MatchOption o (All (λ r. (r.made == n) ≡ false) rows) (λ i. (i < length rows) × ((d : Record) → (get_or rows i d).made ≡ n))
-    → option_and_then (in_row rows) o ≡ find (is_record_at n) (live rows)
-row_by n rows None rising none = sym (find_kept made_of_record lives n rows (distinct made_of_record rows rising) ∙ ap (kept lives) (find_none made_of_record n rows none))
-row_by n rows (Some i) rising here =
-    ap (kept lives) (look_found made_of_record n rows i rising here.0 here.1) ∙ sym (find_kept made_of_record lives n rows (distinct made_of_record rows rising))
+-- in a live row
+pub found_row : (n : ℕ) (rows : List Record) (i : ℕ) (d : Record) → InOrder rows → IsLiveRow rows n i → record_in (live rows) n ≡ Some (get_or rows i d)
+found_row n rows i d rising is =
+    find_kept made_of_record lives n rows (distinct made_of_record rows rising)
+    ∙ ap (kept lives) (find_at made_of_record n rows i d (distinct made_of_record rows rising) is.within is.made_there)
+    ∙ ap (λ t. cond t (Some (get_or rows i d)) None) (is.lives_there d)
+
+-- in an empty one, and where there is none
+pub missed_row : (n : ℕ) (rows : List Record) (i : ℕ) (d : Record) → InOrder rows → i < length rows → ((e : Record) → (get_or rows i e).made ≡ n) → lives (get_or rows i d) ≡ false
+    → record_in (live rows) n ≡ None
+missed_row n rows i d rising lt at dead =
+    find_kept made_of_record lives n rows (distinct made_of_record rows rising)
+    ∙ ap (kept lives) (find_at made_of_record n rows i d (distinct made_of_record rows rising) lt at) ∙ ap (λ t. cond t (Some (get_or rows i d)) None) dead
+
+pub no_row : (n : ℕ) (rows : List Record) → InOrder rows → AllOthers made_of_record n rows → record_in (live rows) n ≡ None
+no_row n rows rising none = find_kept made_of_record lives n rows (distinct made_of_record rows rising) ∙ ap (kept lives) (find_none made_of_record n rows none)
 
 -- ---- where a buffer ends
 
--- one is missing
-pub ended_live : (rows : List Record) (i : ℕ) (b : Record) → slice_get rows i ≡ Some b → lives b ≡ true → IsWithout b (live rows) (live (set rows i (ended b)))
-ended_live [] i b is t = absurd (cc)
-ended_live (x ∷ rows) zero b is t =
-    let same : b ≡ x = cc in
-    let alone : live (x ∷ rows) ≡ x ∷ live rows = ap (λ c. cond c (x ∷ live rows) (live rows)) (sym (ap lives same) ∙ t) in
-    subst (λ bs. IsWithout b bs (live rows)) (sym alone) (record { index = 0; within = omega arith; at = λ d. same; left = refl })
-ended_live (x ∷ rows) (suc i) b is t = later (lives x) (ended_live rows i b is t)
-  where
-    left : List Record
-    left = live (set rows i (ended b))
+ended_live : (n : ℕ) (rows : List Record) → live (changed (is_record_at n) ended rows) ≡ filter (λ r. not (is_record_at n r)) (live rows)
+ended_live n [] = refl
+ended_live n (x ∷ rows) = grind (arith, ended_live n rows)
 
-    later : (c : Bool) → IsWithout b (live rows) left → IsWithout b (cond c (x ∷ live rows) (live rows)) (cond c (x ∷ left) left)
-    later true gone = record { index = suc gone.index; within = (let lt = gone.within in omega (arith, lt)); at = gone.at; left = ap (λ bs. x ∷ bs) gone.left }
-    later false gone = gone
+-- what is left where a row becomes empty
+-- there is one
+some_row : (rows : List Record) (i : ℕ) → i < length rows → Record
+some_row rows i lt = grind arith
 
--- rows stay in order where what stands in one was made at the same place
-pub set_rising : (rows : List Record) (i : ℕ) (x y : Record) → x ≡ get_or rows i x → y.made ≡ x.made → AllPairs (λ a b. a.made < b.made) rows → AllPairs (λ a b. a.made < b.made) (set rows i y)
-set_rising rows i x y at own rising = same_keys made_of_record rows (set rows i y) (map-set_same made_of_record rows i y x (own ∙ ap made_of_record at)) rising
+-- a change of one row is a change of all that were made there
+pub one_changed : (f : Record → Record) (n : ℕ) (rows new : List Record) (i : ℕ) → InOrder rows → IsLiveRow rows n i → ((d : Record) → new ≡ set rows i (f (get_or rows i d))) → new ≡ changed (is_record_at n) f rows
+one_changed f n rows new i rising is e =
+    let d = some_row rows i is.within in
+    e d ∙ sym (changed_at made_of_record f n rows i d (distinct made_of_record rows rising) is.within is.made_there)
+
+-- what is left where a row becomes empty
+pub end_left : (n : ℕ) (rows new : List Record) (i : ℕ) → InOrder rows → IsLiveRow rows n i → ((d : Record) → new ≡ set rows i (ended (get_or rows i d))) → (live new ≡ filter (λ r. not (is_record_at n r)) (live rows)) × InOrder new
+end_left n rows new i rising is set_there =
+    let e = one_changed ended n rows new i rising is set_there in
+    (ap live e ∙ ended_live n rows, subst InOrder (sym e) (pairs_changed (is_record_at n) ended made_of_record (λ x. refl) (λ a b. a < b) rows rising))
 
 -- ---- where empty rows are left out
 
@@ -157,22 +112,18 @@ packed_live rows = filter_kept lives lives (λ r t. t) rows
 pub packed_rows : (rows : List Record) → AreRows rows → AreRows (live rows)
 packed_rows rows is = record { in_order = AllPairs-filter (λ (a : Record) (b : Record). a.made < b.made) lives rows is.in_order; ends = ends_full (live rows) (filter_passes lives rows) }
 
--- ---- how many there are
-
-pub one_there : (rows : List Record) (i : ℕ) (b : Record) → in_row rows i ≡ Some b → 1 ≤ length (live rows)
-one_there rows i b e =
-    let here = kept_some lives (slice_get rows i) b e in
-    row_has (λ r. 1 ≤ length (live rows)) rows i b here.0 here.1 (λ k d lt. omega (arith, lt))
-
 -- ---- where one comes
 
-pub get_last : (rows : List Record) (r : Record) → slice_get (rows ++ r ∷ []) (length (rows ++ r ∷ []) - 1) ≡ Some r
+pub one_there : (rows : List Record) (i : ℕ) (d : Record) → i < length rows → lives (get_or rows i d) ≡ true → 1 ≤ length (live_places rows)
+one_there rows i d lt t = let some = row_has (λ r. 1 ≤ length (live rows)) rows i (get_or rows i d) (slice_get-get_or rows i d lt) t (λ k e lt. omega (arith, lt)) in omega (arith, some, length-map (live rows) made_of_record)
+
+get_last : (rows : List Record) (r : Record) → slice_get (rows ++ r ∷ []) (length (rows ++ r ∷ []) - 1) ≡ Some r
 get_last rows r =
     let len = length_push rows r in
     slice_get-get_or (rows ++ r ∷ []) (length (rows ++ r ∷ []) - 1) r (omega (arith, len)) ∙ ap (λ x. Some x) (get_or_push rows r r (length (rows ++ r ∷ []) - 1) (omega (arith, len)))
 
-pub pushed_live : (rows : List Record) (b : Record) → lives b ≡ true → live (rows ++ b ∷ []) ≡ live rows ++ b ∷ []
-pushed_live rows b t = filter-append lives rows (b ∷ []) ∙ ap (λ c. live rows ++ cond c (b ∷ []) []) t
+pub more_live : (rows : List Record) (b : Record) (t : Bool) → lives b ≡ t → live (rows ++ b ∷ []) ≡ live rows ++ cond t (b ∷ []) []
+more_live rows b t e = filter-append lives rows (b ∷ []) ∙ ap (λ c. live rows ++ cond c (b ∷ []) []) e
 
 pub pushed_rows : (rows : List Record) (b : Record) → AreRows rows → lives b ≡ true → All (λ x. x.made < b.made) (live rows) → AreRows (rows ++ b ∷ [])
 pushed_rows rows b is t newest = record {
@@ -180,46 +131,65 @@ pushed_rows rows b is t newest = record {
   ends = ap (λ o. unwrap_or (option_map is_empty o) false) (get_last rows b) ∙ ap not t;
 }
 
--- ---- a walk from the end
+-- ---- where the last goes, which is empty
 
--- rows that end with an empty one are some
-pub ends_some : (rows : List Record) → ends_empty rows ≡ true → 0 < length rows
-ends_some [] ends = absurd (false≢true ends)
-ends_some (r ∷ rows) ends = omega arith
-
-pub popped_trimmed : (old rows new : List Record) (o : Option Record) → IsTrimmed old rows → ends_empty rows ≡ true → rows ≡ new ++ option_to_list o → IsTrimmed old new
-popped_trimmed old rows new None is ends e = subst (IsTrimmed old) (e ∙ append-nil new) is
-popped_trimmed old rows new (Some r) is ends e =
-    trimmed_more old rows new r is e (last_empty rows r ends (ap (λ xs. slice_get xs (length xs - 1)) e ∙ get_last new r))
+pub popped : (rows new : List Record) (o : Option Record) → InOrder rows → ends_empty rows ≡ true → rows ≡ new ++ option_to_list o → (live new ≡ live rows) × InOrder new
+popped rows new None rising ends e = grind (arith, append-nil)
+popped rows new (Some r) rising ends e =
+    let none = last_empty rows r ends (ap (λ xs. slice_get xs (length xs - 1)) e ∙ get_last new r) in
+    let whole = subst InOrder e rising in (
+      sym (ap live e ∙ more_live new r false none ∙ append-nil (live new)),
+      λ i j d lt h. (let up = whole i j d lt (omega (arith, length_push new r, h)) in
+          let first = ap made_of_record (get_or-append new (r ∷ []) d i (omega (arith, lt, h))) in
+          let second = ap made_of_record (get_or-append new (r ∷ []) d j h) in
+          omega (arith, up, first, second)),
+    )
 
 -- ---- where a buffer is handed out
 
-pub handed_live : (n : ℕ) (rows : List Record) (i : ℕ) (d : Record) → AllPairs (λ a b. a.made < b.made) rows → i < length rows → ((e : Record) → (get_or rows i e).made ≡ n)
-    → live (set rows i (hand_over (get_or rows i d))) ≡ changed (is_record_at n) hand_over (live rows)
-handed_live n rows i d rising lt at =
-    ap live (sym (changed_at made_of_record hand_over n rows i d (distinct made_of_record rows rising) lt at)) ∙ filter_changed lives (is_record_at n) hand_over (λ x. refl) rows
+ends_stay : (p : Record → Bool) (rows : List Record) (k : ℕ) → option_map is_empty (slice_get (changed p hand_over rows) k) ≡ option_map is_empty (slice_get rows k)
+ends_stay p [] k = refl
+ends_stay p (x ∷ rows) zero = elim (p x) as (λ b. option_map is_empty (Some (cond b (hand_over x) x)) ≡ Some (is_empty x)) [ true ↦ refl | false ↦ refl ]
+ends_stay p (x ∷ rows) (suc k) = ends_stay p rows k
 
-empty_at : (rows : List Record) (i k : ℕ) (d y : Record) → i < length rows → is_empty y ≡ is_empty (get_or rows i d) → option_map is_empty (slice_get (set rows i y) k) ≡ option_map is_empty (slice_get rows k)
-empty_at [] i k d y lt e = absurd (omega arith)
-empty_at (x ∷ rows) zero zero d y lt e = ap (λ t. Some t) e
-empty_at (x ∷ rows) zero (suc k) d y lt e = refl
-empty_at (x ∷ rows) (suc i) zero d y lt e = refl
-empty_at (x ∷ rows) (suc i) (suc k) d y lt e = empty_at rows i k d y (omega arith) e
+pub handed_rows : (p : Record → Bool) (rows : List Record) → AreRows rows → AreRows (changed p hand_over rows)
+handed_rows p rows is = record {
+  in_order = pairs_changed p hand_over made_of_record (λ x. refl) (λ a b. a < b) rows is.in_order;
+  ends = ap (λ n. unwrap_or (option_map is_empty (slice_get (changed p hand_over rows) (n - 1))) false) (length_changed p hand_over rows)
+      ∙ ap (λ o. unwrap_or o false) (ends_stay p rows (length rows - 1)) ∙ is.ends;
+}
 
-pub handed_rows : (rows : List Record) (i : ℕ) (d : Record) → AreRows rows → i < length rows → AreRows (set rows i (hand_over (get_or rows i d)))
-handed_rows rows i d is lt =
-    let y = hand_over (get_or rows i d) in
-    record {
-      in_order = same_keys made_of_record rows (set rows i y) (map-set_same made_of_record rows i y d refl) is.in_order;
-      ends = ap (λ n. unwrap_or (option_map is_empty (slice_get (set rows i y) (n - 1))) false) (length-set rows i y) ∙ ap (λ o. unwrap_or o false) (empty_at rows i (length rows - 1) d y lt refl) ∙ is.ends;
-    }
+pub handed_live : (n : ℕ) (rows : List Record) → live (changed (is_record_at n) hand_over rows) ≡ changed (is_record_at n) hand_over (live rows)
+handed_live n rows = filter_changed lives (is_record_at n) hand_over (λ x. refl) rows
 
--- ---- where the buffer made at a place ends
+-- ---- row after row
 
-pub freed : (made : ℕ) (old new : List Record) (o : Option Record) → AllPairs (λ a b. a.made < b.made) old → o ≡ find (is_record_at made) old
-    → MatchOption o (new ≡ old) (λ b. IsWithout b old new) → new ≡ filter (λ b. not (is_record_at made b)) old
-freed made old new None rising e same = same ∙ sym (filter_none (λ (b : Record). b.made) made old (none_found (is_record_at made) old (sym e)))
-freed made old new (Some b) rising e gone =
-    let own = eqb-true b.made made (found_has (is_record_at made) (λ (x : Record). x.made ≡ x.made) old b (sym e) (λ k d lt. refl)).1 in
-    gone.left
-    ∙ sym (filter_at (λ (x : Record). x.made) made old gone.index (distinct (λ (x : Record). x.made) old rising) gone.within (λ d. ap (λ (x : Record). x.made) (sym (gone.at d)) ∙ own))
+-- the live buffers of one row more
+pub next_live : (rows : List Record) (i : ℕ) (d : Record) (t : Bool) → i < length rows → lives (get_or rows i d) ≡ t → live (take (i + 1) rows) ≡ live (take i rows) ++ cond t (get_or rows i d ∷ []) []
+next_live rows i d t lt e = grind (arith, common_steps, take-suc, more_live)
+
+-- the first from a place on is the first in the rows that aren't before it
+pub from_point : (from : ℕ) (rows : List Record) (i : ℕ) → ((k : ℕ) (d : Record) → k < i → k < length rows → (get_or rows k d).made < from) → ((k : ℕ) (d : Record) → i ≤ k → k < length rows → from ≤ (get_or rows k d).made)
+    → find (λ r. nat_le from r.made) (live rows) ≡ find lives (drop i rows)
+from_point from [] zero low high = refl
+from_point from [] (suc i) low high = refl
+from_point from (x ∷ rows) zero low high = by (lives x) refl (from_point from rows zero (λ k d lt h. absurd (omega arith)) (λ k d le h. high (suc k) d (omega arith) (omega arith)))
+  where
+    by : (t : Bool) → lives x ≡ t → find (λ r. nat_le from r.made) (live rows) ≡ find lives rows → find (λ r. nat_le from r.made) (cond t (x ∷ live rows) (live rows)) ≡ cond t (Some x) (find lives rows)
+    by t e rest = grind (arith, true, rest, le-leb, false)
+from_point from (x ∷ rows) (suc i) low high =
+    by (lives x) (from_point from rows i (λ k d lt h. low (suc k) d (omega arith) (omega arith)) (λ k d le h. high (suc k) d (omega arith) (omega arith)))
+  where
+    by : (t : Bool) → find (λ r. nat_le from r.made) (live rows) ≡ find lives (drop i rows) → find (λ r. nat_le from r.made) (cond t (x ∷ live rows) (live rows)) ≡ find lives (drop i rows)
+    by t rest = grind (arith, true, rest, lt-leb, false)
+
+-- of an empty row nothing is found
+pub next_row : (rows : List Record) (i : ℕ) (d : Record) (t : Bool) → i < length rows → lives (get_or rows i d) ≡ t → find lives (drop i rows) ≡ cond t (Some (get_or rows i d)) (find lives (drop (i + 1) rows))
+next_row rows i d t lt e = grind (arith, drop-cons)
+
+-- nor past the rows
+pub no_more : (rows : List Record) (i : ℕ) → length rows ≤ i → find lives (drop i rows) ≡ None
+no_more [] zero le = refl
+no_more [] (suc i) le = refl
+no_more (x ∷ rows) zero le = absurd (omega arith)
+no_more (x ∷ rows) (suc i) le = no_more rows i (omega arith)

@@ -1,30 +1,19 @@
 -- What a window keeps, through each change.
 use Rattle.std.proofs.Common.{◌≡◌, ℕ, ◌+◌, ◌/◌, ◌<◌, ◌≤◌, Bool, false, List, [], ◌∷◌, ◌++◌, length, get_or, refl, ap, sym, ◌∙◌, subst, Ok, arith, inl, inr, ◌⊎◌, All}
-use Rattle.std.specs.List.{between}
-use Rattle.std.specs.Prelude.{slice_index}
-use Rattle.std.proofs.lemmas.List.{length_push, get_or_push}
-use Rattle.std.proofs.lemmas.List.Elements.{All-map, All-push}
+use Rattle.std.specs.{List.{between}, Prelude.{slice_index, Some, filter, not, option_map}}
+use Rattle.std.proofs.{lemmas.List.{length_push, get_or_push}, lemmas.List.Elements.{All-map, All-push, All-filter}}
 use Rattle.bd_keys.proofs.Lists.{All_remove}
 use Rattle.bd_ground.specs.Tiles.{Tiles, Begins, without, with_span}
-use Rattle.bd_space.specs.declared.space.Buffer.{Buffer}
-use Rattle.bd_space.specs.Words.{changed}
-use Rattle.bd_space.specs.Windows.{needed, start_for}
-use Rattle.bd_space.specs.Freeing.{is_made_at}
-use Rattle.bd_space.specs.Spam.{one_way_from}
+use Rattle.bd_space.specs.{declared.space.Buffer.{Buffer}, Words.{changed}, Windows.{needed, start_for}, Freeing.{is_made_at}, Spam.{one_way_from}}
 use Rattle.bd_space.specs.ReadItems.{hand_out}
-use Rattle.bd_buffers.specs.declared.record.Record.{Record}
-use Rattle.bd_buffers.specs.declared.ground.Ground.{Ground}
-use Rattle.bd_buffers.specs.Record.{standing, all_standing, bare, IsInMemory, is_record_at, hand_over}
-use Rattle.bd_buffers.specs.Buffer.{IsApart, IsPlaced, one_way_share, share_from}
-use Rattle.bd_buffers.specs.Rows.{IsWithout}
-use Rattle.bd_buffers.specs.Sums.{AreNoted, AreSums}
+use Rattle.bd_buffers.specs.{declared.record.Record.{Record}, declared.ground.Ground.{Ground}}
+use Rattle.bd_buffers.specs.Record.{standing, all_standing, bare, IsInMemory, is_record_at, record_in, hand_over}
+use Rattle.bd_buffers.specs.{Buffer.{IsApart, IsPlaced, one_way_share, share_from}, Rows.{IsWithout}, Sums.{AreNoted, AreSums}}
 use Rattle.bd_buffers.specs.Window.{IsWindow, AreStarts, Notes, Keeps, one_way_size, is_free_unit}
-use Rattle.bd_buffers.proofs.Changes.{All_changed}
-use Rattle.bd_buffers.proofs.Places.{IsGiven, given_says}
-use Rattle.bd_buffers.proofs.Kept.{window_push, window_handed, window_removed, is_one_way, total_push, total_handed, total_removed}
-use Rattle.bd_buffers.proofs.Listed.{starts_noted}
+use Rattle.bd_buffers.proofs.{Changes.{All_changed}, Made.{gone_at}, Places.{IsGiven, given_says}}
+use Rattle.bd_buffers.proofs.{Kept.{window_push, window_handed, window_removed, is_one_way, total_push, total_handed, total_removed}, Listed.{starts_noted}}
 use Rattle.bd_buffers.proofs.Shares.{sums_pushed, sums_handed, sums_without}
-use Rattle.bd_buffers.proofs.Standing.{all_of, all_stay, in_longer, same_standing, pushed_standing, handed_standing, without_standing}
+use Rattle.bd_buffers.proofs.Standing.{all_of, all_stay, in_longer, same_standing, pushed_standing, handed_standing, found_standing, kept_standing}
 use Rattle.bd_buffers.proofs.Units.{tiles_more, tiles_handed, tiles_less, taken_units, begins_there}
 
 -- what all have the last has
@@ -55,30 +44,35 @@ notes_without : (b : Buffer) (bs new : List Buffer) (g left : Ground) → Notes 
     → ((free : ℕ → Bool) → Tiles free g.spans → ((u : ℕ) → b.start / 8 ≤ u → u < b.start / 8 + b.size / 8 → free u ≡ false) → Tiles (with_span (b.start / 8) (b.size / 8) free) left.spans)
     → left.starts ≡ g.starts → left.one_way + one_way_share b ≡ g.one_way → ((f : ℕ → ℕ) → AreNoted g.senders (λ m. f m + share_from m b) → AreNoted left.senders f) → Notes new left
 notes_without b bs new g left is gone size units spans starts share senders =
-    let total = is.total in
     let less = total_removed is_one_way bs gone.index b gone.within in
     let own = ap one_way_share (gone.at b) in
     let rest = ap one_way_size gone.left in
-    let whole = is.whole in
     record {
       window = subst (λ n. IsWindow n new) (sym size) (subst (IsWindow g.size) (sym gone.left) (window_removed g.size gone.index bs b is.window gone.within));
-      whole = omega (arith, whole, size, units);
+      whole = omega (arith, size, units);
       tiles = tiles_less g.size b bs new left.spans is.window gone (spans (is_free_unit bs) is.tiles (λ u from to. taken_units g.size u b bs new is.window gone from to));
       starts = subst (λ v. AreStarts new v.items) (sym starts) (subst (λ xs. AreStarts xs g.starts.items) (sym gone.left) (All_remove (λ b. slice_index g.starts.items (b.start / 8) ≡ b.made) bs gone.index gone.within is.starts));
-      total = omega (arith, total, less, own, rest, share);
+      total = omega (arith, less, own, rest, share);
       sums = senders (one_way_from new) (sums_without b bs new g.senders gone is.sums);
     }
 
-pub keeps_without : (r : Record) (rs new : List Record) (g left : Ground) → Keeps rs g → IsWithout r rs new → left.memory ≡ g.memory → left.size ≡ g.size → left.spans.size ≡ g.spans.size
+-- the buffer of the record that was made there is missing
+pub gone_of : (n : ℕ) (r : Record) (rs : List Record) (g : Ground) → Keeps rs g → record_in rs n ≡ Some r
+    → IsWithout (standing g.memory r) (all_standing g.memory rs) (filter (λ b. not (is_made_at n b)) (all_standing g.memory rs))
+gone_of n r rs g is found =
+    gone_at (λ (b : Buffer). b.made) n (all_standing g.memory rs) (standing g.memory r) is.notes.window.in_order (found_standing g.memory rs n ∙ ap (option_map (standing g.memory)) found)
+
+pub keeps_without : (n : ℕ) (r : Record) (rs : List Record) (g left : Ground) → Keeps rs g → record_in rs n ≡ Some r → left.memory ≡ g.memory → left.size ≡ g.size → left.spans.size ≡ g.spans.size
     → ((free : ℕ → Bool) → Tiles free g.spans → ((u : ℕ) → r.start / 8 ≤ u → u < r.start / 8 + r.size / 8 → free u ≡ false) → Tiles (with_span (r.start / 8) (r.size / 8) free) left.spans)
-    → left.starts ≡ g.starts → left.one_way + one_way_share (bare r) ≡ g.one_way → ((f : ℕ → ℕ) → AreNoted g.senders (λ m. f m + share_from m (bare r)) → AreNoted left.senders f) → Keeps new left
-keeps_without r rs new g left is gone memory size units spans starts share senders =
+    → left.starts ≡ g.starts → left.one_way + one_way_share (bare r) ≡ g.one_way → ((f : ℕ → ℕ) → AreNoted g.senders (λ m. f m + share_from m (bare r)) → AreNoted left.senders f)
+    → Keeps (filter (λ x. not (is_record_at n x)) rs) left
+keeps_without n r rs g left is found memory size units spans starts share senders =
     let m = g.memory in
-    let P : List ℕ → Type 0 = λ n. Notes (all_standing n new) left in
-    let Q : List ℕ → Type 0 = λ n. All (IsInMemory n) new in
+    let new = filter (λ x. not (is_record_at n x)) rs in
+    let noted = notes_without (standing m r) (all_standing m rs) (filter (λ b. not (is_made_at n b)) (all_standing m rs)) g left is.notes (gone_of n r rs g is found) size units spans starts share senders in
     record {
-      notes = subst P (sym memory) (notes_without (standing m r) (all_standing m rs) (all_standing m new) g left is.notes (without_standing m r rs new gone) size units spans starts share senders);
-      there = subst Q (sym memory) (subst (λ xs. All (IsInMemory m) xs) (sym gone.left) (All_remove (IsInMemory m) rs gone.index gone.within is.there));
+      notes = subst (λ k. Notes (all_standing k new) left) (sym memory) (subst (λ bs. Notes bs left) (sym (kept_standing m n rs)) noted);
+      there = subst (λ k. All (IsInMemory k) new) (sym memory) (All-filter (λ x. not (is_record_at n x)) (IsInMemory m) rs is.there);
     }
 
 -- ---- memory grows, and room to note what is free
@@ -90,14 +84,12 @@ pub keeps_memory : (rs : List Record) (g left : Ground) → Keeps rs g → left.
 keeps_memory rs g left is size one_way senders starts kept longer units tiles =
     let bs = all_standing g.memory rs in
     let old = is.notes in
-    let whole = old.whole in
-    let total = old.total in
     let notes : Notes bs left = record {
       window = subst (λ n. IsWindow n bs) (sym size) old.window;
-      whole = omega (arith, whole, size, units);
+      whole = omega (arith, size, units);
       tiles = tiles (is_free_unit bs) old.tiles;
       starts = λ k d lt. starts ((get_or bs k d).start / 8) ∙ old.starts k d lt;
-      total = omega (arith, total, one_way);
+      total = omega (arith, one_way);
       sums = subst (AreSums bs) (sym senders) old.sums;
     } in
     record {
@@ -149,8 +141,7 @@ module _ (r : Record) (rs : List Record) (g left : Ground) (is : Keeps rs g) (co
   -- a hole begins there that has its room, or the tail
   pub begins : Begins g.spans (r.size / 8) (r.start / 8)
   begins =
-      let sized = comes.sized in
-      begins_there g.size g.spans.size old is.notes.whole is.notes.window.placed g.spans r.size r.start refl is.notes.tiles (omega (arith, sized)) (omega (arith, sized)) given.least
+      begins_there g.size g.spans.size old is.notes.whole is.notes.window.placed g.spans r.size r.start refl is.notes.tiles (omega arith) (omega arith) given.least
 
   pub keeps_pushed : IsInMemory left.memory r → length left.memory ≡ length g.memory → left.size ≡ g.size → left.spans.size ≡ g.spans.size
       → Tiles (without (r.start / 8) (r.size / 8) (is_free_unit old)) left.spans
@@ -158,18 +149,16 @@ module _ (r : Record) (rs : List Record) (g left : Ground) (is : Keeps rs g) (co
       → left.one_way ≡ g.one_way + one_way_share (bare r) → AreNoted left.senders (λ m. one_way_from old m + share_from m (bare r)) → Keeps (rs ++ r ∷ []) left
   keeps_pushed inside len size units tiles at others_at share senders =
       let notes = is.notes in
-      let whole = notes.whole in
-      let total = notes.total in
       let sized = comes.sized in
       let pushed = total_push is_one_way old new in
       let window : IsWindow g.size (old ++ new ∷ []) = window_push g.size old new notes.window (All-map (λ b. b.made < r.made) (standing g.memory) rs comes.newest) sized comes.place in
       let placed = all_last (IsPlaced g.size) old new window.placed in
       let noted : Notes (old ++ new ∷ []) left = record {
         window = subst (λ n. IsWindow n (old ++ new ∷ [])) (sym size) window;
-        whole = omega (arith, whole, size, units);
+        whole = omega (arith, size, units);
         tiles = tiles_more g.size old new left.spans placed tiles;
         starts = starts_noted g.size old new g.starts.items left.starts.items notes.window notes.starts given.least.room.aligned (omega (arith, sized)) given.least.room.free at others_at;
-        total = omega (arith, total, pushed, share);
+        total = omega (arith, pushed, share);
         sums = sums_pushed old new left.senders senders;
       } in
       let longer : length g.memory ≤ length left.memory = omega (arith, len) in

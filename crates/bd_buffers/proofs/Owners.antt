@@ -1,26 +1,18 @@
 -- Windows by whose they are: their owners rise.
-use Rattle.std.proofs.Common.{◌≡◌, ℕ, ◌<◌, Bool, true, false, cond, List, [], ◌∷◌, length, get_or, map, refl, ap, sym, ◌∙◌, arith, All, Some, None, ◌-◌, subst, ltb}
-use Rattle.std.specs.Prelude.{filter, Option, IfSome, option_copied, is_some}
-use Rattle.std.specs.List.{slice_get}
-use Rattle.std.proofs.lemmas.Bool.{ltb-true, ltb-false}
-use Rattle.std.proofs.lemmas.Option.{get_or_from_slice_get, slice_get_past, slice_get_read}
-use Rattle.std.proofs.lemmas.List.{length-map, get_or-map}
+use Rattle.std.proofs.Common.{◌≡◌, ℕ, ◌<◌, Bool, true, false, cond, List, [], ◌∷◌, length, get_or, map, refl, ap, sym, ◌∙◌, arith, All, Some, ◌-◌, subst, ltb}
+use Rattle.std.specs.{Prelude.{filter, Option, IfSome, option_copied, is_some}, List.{slice_get}}
+use Rattle.std.proofs.{lemmas.Bool.{ltb-true, ltb-false}, lemmas.Option.{get_or_from_slice_get, slice_get_past, slice_get_read}, lemmas.List.{length-map, get_or-map}}
 use Rattle.std.proofs.lemmas.List.Kept.{AllPairs-filter}
 use Rattle.std.proofs.Math.ListN as list
 use denote.Ref.{Bor}
-use Rattle.bd_space.specs.declared.space.Process.{Process}
-use Rattle.bd_space.specs.declared.space.Buffer.{Buffer}
-use Rattle.bd_space.specs.Words.{changed}
-use Rattle.bd_buffers.specs.declared.owned.OwnedWindow.{OwnedWindow}
+use Rattle.bd_space.specs.{declared.space.Process.{Process}, declared.space.Buffer.{Buffer}, Words.{changed}}
+use Rattle.bd_buffers.specs.{declared.owned.OwnedWindow.{OwnedWindow}, Owners.{AreInOrder}, WindowsStand.{ProcessWindow, seen, window_of, with_buffers, is_of}}
 use Rattle.bd_buffers.proofs.Made.{same_keys}
-use Rattle.bd_buffers.specs.Owners.{AreInOrder}
-use Rattle.bd_buffers.specs.WindowsStand.{ProcessWindow, seen, window_of, with_buffers, is_of}
 
 -- ---- where one stands
 
 pub look_copied : {A : Type 0} (o : Option (Bor A)) (xs : List A) (i : ℕ) → is_some o ≡ ltb i (length xs) → IfSome o (λ x. x.now ≡ get_or xs i x.now) → option_copied o ≡ slice_get xs i
-look_copied None xs i e at = sym (slice_get_past xs i (ltb-false i (length xs) (sym e)))
-look_copied (Some x) xs i e at = sym (slice_get_read xs (length xs) i x.now refl (ltb-true i (length xs) (sym e)) at)
+look_copied o xs i e at = grind (arith, slice_get_past, ltb-false, slice_get_read, ltb-true)
 
 pub last_has : {A : Type 0} (P : A → Type 0) (xs : List A) (x : A) → slice_get xs (length xs - 1) ≡ Some x → All P xs → P x
 last_has P [] x e all = cc

@@ -1,19 +1,11 @@
 -- The least place that fits.
-use Rattle.std.proofs.Common.{subst, ◌≡◌, ℕ, zero, suc, ◌+◌, ◌*◌, ◌/◌, ◌%◌, ◌<◌, ◌≤◌, Bool, true, false, List, refl, ap, sym, ◌∙◌, arith, inl, inr, rules, tests, nat_le}
+use Rattle.std.proofs.Common.{subst, ◌≡◌, ℕ, zero, suc, ◌+◌, ◌*◌, ◌/◌, ◌%◌, ◌<◌, ◌≤◌, Bool, true, false, List, refl, ap, sym, ◌∙◌, arith, inl, inr, rules, tests}
 use Rattle.std.specs.Prelude.{Option, Some, None, Result, Ok, Err, option_map, ◌&&◌, IsTrue, IfOk, IfErr}
-use Rattle.std.specs.List.{list_all}
-use Rattle.std.proofs.lemmas.List.Sums.{AllPass-from_list_all, list_all-from_AllPass}
-use Rattle.std.proofs.lemmas.List.Elements.{All-weaker}
-use Rattle.std.proofs.lemmas.Bool.{cases_lt, and_from, and_parts}
-use Rattle.bd_uapi.specs.declared.fault.Cause.{Cause}
-use Rattle.bd_uapi.specs.declared.fault.Cause.TheVariants.{NoRoom, OverBudget}
-use Rattle.bd_space.specs.declared.space.Buffer.{Buffer}
-use Rattle.bd_space.specs.Words.{least, when, ok_or, unless, and_then}
+use Rattle.std.proofs.{lemmas.List.Sums.{AllPass-from_list_all, list_all-from_AllPass}, lemmas.List.Elements.{All-weaker}, lemmas.Bool.{cases_lt}}
+use Rattle.bd_uapi.specs.{declared.fault.Cause.{Cause}, declared.fault.Cause.TheVariants.{NoRoom, OverBudget}}
+use Rattle.bd_space.specs.{declared.space.Buffer.{Buffer}, Words.{least, when, ok_or, unless, and_then}}
 use Rattle.bd_space.specs.Windows.{is_apart, fits_in, start_in, over_budget_in, start_for, needed}
-use Rattle.bd_buffers.specs.Buffer.{IsApart}
-use Rattle.bd_buffers.specs.declared.window.Window.{Window}
-use Rattle.bd_buffers.specs.Stands.{CanHold}
-use Rattle.bd_buffers.specs.Window.{IsFree, IsLeastFree, IsInBudget, Refuses, one_way_size}
+use Rattle.bd_buffers.specs.{Buffer.{IsApart}, declared.window.Window.{Window}, Stands.{CanHold}, Window.{IsFree, IsLeastFree, IsInBudget, Refuses, one_way_size}}
 
 -- ---- the least number that passes
 
@@ -31,17 +23,7 @@ pub record IsLeast (p : ℕ → Bool) (n k m : ℕ) : Type 0 where
 
 first_says : (p : ℕ → Bool) (n k m : ℕ) (b : Bool) → p k ≡ b → (least n (k + 1) p ≡ Some m → IsLeast p n (k + 1) m)
     → step_to p n k b ≡ Some m → IsLeast p (suc n) k m
-first_says p n k m true t rest f =
-    let same : k ≡ m = cc in
-    record { low = omega arith; high = omega arith; passes = ap p (sym same) ∙ t; below = λ j above under. absurd (omega arith) }
-first_says p n k m false t rest f =
-    let is = rest f in
-    record {
-      low = omega (arith, is.low);
-      high = omega (arith, is.high);
-      passes = is.passes;
-      below = λ j above under. elim (cases_lt k j) [ inl lt ↦ is.below j (omega arith) under | inr le ↦ (let same : j ≡ k = omega arith in ap p same ∙ t) ];
-    }
+first_says p n k m b t rest f = search arith
 
 pub least_says : (p : ℕ → Bool) (n k m : ℕ) → least n k p ≡ Some m → IsLeast p n k m
 least_says p zero k m e = cc
@@ -49,9 +31,7 @@ least_says p (suc n) k m e = first_says p n k m (p k) refl (least_says p n (k + 
 
 first_misses : (p : ℕ → Bool) (n k : ℕ) (b : Bool) → p k ≡ b → (least n (k + 1) p ≡ None → (j : ℕ) → k + 1 ≤ j → j < k + 1 + n → p j ≡ false)
     → step_to p n k b ≡ None → (j : ℕ) → k ≤ j → j < k + suc n → p j ≡ false
-first_misses p n k true t rest f j low high = cc
-first_misses p n k false t rest f j low high =
-    elim (cases_lt k j) [ inl lt ↦ rest f j (omega arith) (omega arith) | inr le ↦ (let same : j ≡ k = omega arith in ap p same ∙ t) ]
+first_misses p n k b t rest f j low high = search arith
 
 pub least_misses : (p : ℕ → Bool) (n k : ℕ) → least n k p ≡ None → (j : ℕ) → k ≤ j → j < k + n → p j ≡ false
 least_misses p zero k e j low high = absurd (omega arith)
@@ -66,22 +46,10 @@ is_apart_from : (p n : ℕ) (b : Buffer) → IsApart p n b → is_apart p n b �
 is_apart_from p n b apart = search (rules, tests)
 
 pub fits_free : (size : ℕ) (buffers : List Buffer) (n p : ℕ) → p % 8 ≡ 0 → fits_in size buffers n p ≡ true → IsFree size buffers n p
-fits_free size buffers n p aligned fits =
-    let both = and_parts (nat_le (p + n) size) (list_all (is_apart p n) buffers) fits in
-    let in_window : nat_le (p + n) size ≡ true = both.0 in
-    let apart = AllPass-from_list_all (is_apart p n) buffers both.1 in
-    record {
-      aligned = aligned;
-      inside = search (rules, tests);
-      free = All-weaker (λ b. is_apart p n b ≡ true) (IsApart p n) (apart_is p n) buffers apart;
-    }
+fits_free size buffers n p aligned fits = search (arith, AllPass-from_list_all, All-weaker)
 
 pub free_fits : (size : ℕ) (buffers : List Buffer) (n p : ℕ) → IsFree size buffers n p → fits_in size buffers n p ≡ true
-free_fits size buffers n p room =
-    let inside : p + n ≤ size = room.inside in
-    let in_window : nat_le (p + n) size ≡ true = search (rules, tests) in
-    and_from (nat_le (p + n) size) (list_all (is_apart p n) buffers) in_window
-    (list_all-from_AllPass (is_apart p n) buffers (All-weaker (IsApart p n) (λ b. is_apart p n b ≡ true) (is_apart_from p n) buffers room.free))
+free_fits size buffers n p room = search (arith, list_all-from_AllPass, All-weaker)
 
 -- ---- the place
 
@@ -165,8 +133,7 @@ in_budget size buffers n false e t = cc
 
 over_budget : (size : ℕ) (buffers : List Buffer) (n : ℕ) (one_way : Bool) → (one_way && over_budget_in size buffers n) ≡ true → IsTrue one_way × (size < 2 * (one_way_size buffers + n))
 unfolding over_budget_in
-over_budget size buffers n true e = (refl, search (rules, tests))
-over_budget size buffers n false e = cc
+over_budget size buffers n one_way e = search arith
 
 given : (size : ℕ) (buffers : List Buffer) (one_way : Bool) (n p : ℕ) (o : Option ℕ) (over : Bool) → start_in size buffers n ≡ o → (one_way && over_budget_in size buffers n) ≡ over
     → and_then (ok_or o NoRoom) (unless (when over OverBudget)) ≡ Ok p → IsGiven size buffers one_way n p
@@ -178,10 +145,7 @@ given size buffers one_way n p (Some q) false e f g =
 
 refused : (size : ℕ) (buffers : List Buffer) (one_way : Bool) (n : ℕ) (x : Cause) (o : Option ℕ) (over : Bool) → 8 ≤ n → start_in size buffers n ≡ o
     → (one_way && over_budget_in size buffers n) ≡ over → and_then (ok_or o NoRoom) (unless (when over OverBudget)) ≡ Err x → Refuses size buffers one_way n x
-refused size buffers one_way n x None over filled e f g =
-    let P : Cause → Type 0 = λ y. Refuses size buffers one_way n y in
-    let same : NoRoom ≡ x = cc in
-    subst P same (no_start_says size buffers n filled e)
+refused size buffers one_way n x None over filled e f g = grind (arith, no_start_says)
 refused size buffers one_way n x (Some q) true filled e f g =
     let P : Cause → Type 0 = λ y. Refuses size buffers one_way n y in
     let same : OverBudget ≡ x = cc in
@@ -202,8 +166,7 @@ refused_says size buffers one_way n x filled e = refused size buffers one_way n 
 -- what is larger than the window has no place
 pub too_large : (size : ℕ) (buffers : List Buffer) (one_way : Bool) (n : ℕ) → size < n → start_for size buffers one_way n ≡ Err NoRoom
 unfolding start_for
-too_large size buffers one_way n large =
-    rw (no_start_at size buffers n (λ p room. let inside : p + n ≤ size = room.inside in omega arith)) refl
+too_large size buffers one_way n large = grind (arith, no_start_at)
 
 -- ---- what the answers of `place` say
 
@@ -223,8 +186,7 @@ budget_of size buffers one_way n (Err x) e = tt
 
 pub cause_of : (size : ℕ) (buffers : List Buffer) (one_way : Bool) (bytes offsets : ℕ) (r : Result ℕ Cause) → r ≡ start_for size buffers one_way (needed bytes offsets)
     → IfErr r (λ x. Refuses size buffers one_way (needed bytes offsets) x)
-cause_of size buffers one_way bytes offsets (Ok p) e = tt
-cause_of size buffers one_way bytes offsets (Err x) e = refused_says size buffers one_way (needed bytes offsets) x (omega arith) (sym e)
+cause_of size buffers one_way bytes offsets r e = grind (arith, refused_says)
 
 -- what a window can hold lies inside it
 pub holds_inside : (w : Window) (one_way : Bool) (n p : ℕ) → CanHold w one_way n p → p + n ≤ w.size

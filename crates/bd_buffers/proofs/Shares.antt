@@ -1,16 +1,10 @@
 -- How much of a window the one-way buffers of each sender take, through each change.
-use Rattle.std.proofs.Common.{◌≡◌, ℕ, ◌+◌, ◌≤◌, Bool, true, false, cond, List, [], ◌∷◌, ◌++◌, refl, ap, sym, ◌∙◌, arith, eq-eqb}
+use Rattle.std.proofs.{lemmas.Grind.{common_steps}, lemmas.Bool.{eqb-true}}
+use Rattle.std.proofs.Common.{◌≡◌, ℕ, ◌+◌, ◌≤◌, Bool, cond, List, [], ◌∷◌, ◌++◌, refl, ap, sym, ◌∙◌, arith, eq-eqb}
 use Rattle.std.specs.Prelude.{◌==◌, ◌&&◌, Some, None, unwrap_or}
-use Rattle.std.proofs.lemmas.Bool.{eqb-true}
-use Rattle.bd_space.specs.declared.space.Buffer.{Buffer}
-use Rattle.bd_space.specs.Words.{changed}
-use Rattle.bd_space.specs.ReadItems.{hand_out}
-use Rattle.bd_space.specs.Spam.{one_way_from}
+use Rattle.bd_space.specs.{declared.space.Buffer.{Buffer}, Words.{changed}, ReadItems.{hand_out}, Spam.{one_way_from}}
 use Rattle.bd_keys.specs.declared.map.WordMap.{WordMap}
-use Rattle.bd_buffers.specs.Buffer.{one_way_share, share_from}
-use Rattle.bd_buffers.specs.Rows.{IsWithout}
-use Rattle.bd_buffers.specs.Sums.{noted, sum_at, AreNoted, AreSums}
-use Rattle.bd_buffers.specs.Window.{one_way_size}
+use Rattle.bd_buffers.specs.{Buffer.{one_way_share, share_from}, Rows.{IsWithout}, Sums.{noted, sum_at, AreNoted, AreSums}, Window.{one_way_size}}
 use Rattle.bd_buffers.proofs.Kept.{is_one_way, total_cons, total_push, total_handed, total_removed}
 
 -- a one-way call of this sender
@@ -28,30 +22,20 @@ from_without m b bs new gone =
 -- ---- one sender's are no more than all
 
 share_le : (m : ℕ) (b : Buffer) (one_way mine : Bool) → b.one_way ≡ one_way → (b.sender == m) ≡ mine → share_from m b ≤ one_way_share b
-share_le m b true true e f = rw (e, f) (omega arith)
-share_le m b true false e f = rw (e, f) (omega arith)
-share_le m b false mine e f = rw e (omega arith)
+share_le m b one_way mine e f = search arith
 
 pub from_within : (m : ℕ) (bs : List Buffer) → one_way_from bs m ≤ one_way_size bs
 from_within m [] = omega arith
-from_within m (x ∷ bs) =
-    let rest = from_within m bs in
-    let one = total_cons (sent_by m) x bs in
-    let all = total_cons is_one_way x bs in
-    let share = share_le m x x.one_way (x.sender == m) refl refl in
-    omega (arith, rest, one, all, share)
+from_within m (x ∷ bs) = grind (arith, common_steps, total_cons, is_one_way, share_le, from_within m bs)
 
 -- its own sender's sum has all that a buffer adds
 pub own_share : (b : Buffer) → share_from b.sender b ≡ one_way_share b
-own_share b =
-    ap (λ k. cond (b.one_way && k) b.size 0) (eq-eqb b.sender b.sender refl)
-    ∙ elim b.one_way as (λ k. cond (k && true) b.size 0 ≡ cond k b.size 0) [ true ↦ refl | false ↦ refl ]
+own_share b = search (arith, eq-eqb)
 
 -- ---- sums as they are noted
 
 told_by : (n : ℕ) (t : Bool) → (n == 0) ≡ t → unwrap_or (cond t None (Some n)) 0 ≡ n
-told_by n true e = sym (eqb-true n 0 e)
-told_by n false e = refl
+told_by n t e = search (arith, eqb-true)
 
 -- the sum of each sender
 pub at_sender : (sums : WordMap ℕ) (f : ℕ → ℕ) → AreNoted sums f → (m : ℕ) → sum_at sums m ≡ f m

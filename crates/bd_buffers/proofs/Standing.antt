@@ -1,47 +1,23 @@
 -- Records, and the buffers that they stand for.
-use Rattle.std.proofs.Common.{◌≡◌, ℕ, zero, suc, ◌+◌, ◌<◌, ◌≤◌, Bool, true, false, cond, List, [], ◌∷◌, ◌++◌, length, get_or, map, refl, ap, sym, ◌∙◌, subst, arith, All}
-use Rattle.std.specs.Prelude.{◌==◌, AllPairs, filter, find, not, remove, Some, None, Option, option_map, nat_le}
-use Rattle.std.specs.Option.{is_some}
-use Rattle.std.specs.List.{between}
-use Rattle.std.proofs.lemmas.List.{length-map, get_or-map, map-append}
-use Rattle.std.proofs.lemmas.List.Elements.{All-head, All-tail}
-use Rattle.std.proofs.lemmas.List.Edits.{length-between}
-use Rattle.bd_keys.specs.declared.map.WordMap.{WordMap}
-use Rattle.bd_keys.specs.Look.{look}
-use Rattle.bd_space.specs.declared.space.Buffer.{Buffer}
-use Rattle.bd_space.specs.Words.{changed, round_up}
-use Rattle.bd_space.specs.Freeing.{is_made_at}
-use Rattle.bd_space.specs.Returns.{buffer_in}
-use Rattle.bd_space.specs.ReadItems.{hand_out}
+use Rattle.std.proofs.Common.{◌≡◌, ℕ, ◌+◌, ◌<◌, ◌≤◌, Bool, List, [], ◌∷◌, ◌++◌, length, get_or, map, refl, ap, ◌∙◌, subst, arith, All}
+use Rattle.std.specs.{Prelude.{AllPairs, filter, find, not, option_map}, List.{between}}
+use Rattle.std.proofs.{lemmas.List.{length-map, get_or-map, map-append}, lemmas.List.Elements.{All-head, All-tail}, lemmas.List.Edits.{length-between}}
+use Rattle.bd_space.specs.{declared.space.Buffer.{Buffer}, Words.{changed, round_up}, Freeing.{is_made_at}, Returns.{buffer_in}, ReadItems.{hand_out}}
 use Rattle.bd_buffers.specs.declared.record.Record.{Record}
-use Rattle.bd_buffers.specs.Record.{with_bytes, standing, all_standing, IsSized, IsInMemory, is_record_at, record_in, hand_over, made_of_record, next_record}
-use Rattle.bd_buffers.specs.Rows.{IsWithout}
-use Rattle.bd_buffers.specs.Homes.{home_key, Forgets, ForgetsRecords}
-use Rattle.bd_buffers.specs.WindowsStand.{made_of_buffer, next_made}
+use Rattle.bd_buffers.specs.Record.{with_bytes, standing, all_standing, IsSized, IsInMemory, is_record_at, record_in, hand_over, made_of_record}
+use Rattle.bd_buffers.specs.WindowsStand.{made_of_buffer}
 
 module _ {A B : Type 0} (f : A → B) where
-  map_remove : (xs : List A) (i : ℕ) → map f (remove xs i) ≡ remove (map f xs) i
-  map_remove [] zero = refl
-  map_remove [] (suc i) = refl
-  map_remove (x ∷ xs) zero = refl
-  map_remove (x ∷ xs) (suc i) = ap (λ ys. f x ∷ ys) (map_remove xs i)
-
   pub found_of : (r : B → Bool) (xs : List A) → find r (map f xs) ≡ option_map f (find (λ y. r (f y)) xs)
   found_of r [] = refl
-  found_of r (x ∷ xs) =
-      elim (r (f x)) as (λ b. cond b (Some (f x)) (find r (map f xs)) ≡ option_map f (cond b (Some x) (find (λ y. r (f y)) xs))) [ true ↦ refl | false ↦ found_of r xs ]
+  found_of r (x ∷ xs) = grind (arith, found_of r xs)
 
   pub all_of : (P : B → Type 0) (xs : List A) → All P (map f xs) → All (λ x. P (f x)) xs
   all_of P xs all k d lt = subst P (get_or-map f xs k d (f d) lt) (all k (f d) (omega (arith, length-map xs f, lt)))
 
   pub filtered_of : (r : B → Bool) (xs : List A) → map f (filter (λ y. r (f y)) xs) ≡ filter r (map f xs)
   filtered_of r [] = refl
-  filtered_of r (x ∷ xs) =
-      let rest = filtered_of r xs in
-      elim (r (f x)) as (λ b. map f (cond b (x ∷ filter (λ y. r (f y)) xs) (filter (λ y. r (f y)) xs)) ≡ cond b (f x ∷ filter r (map f xs)) (filter r (map f xs))) [
-        | true ↦ ap (λ ys. f x ∷ ys) rest
-        | false ↦ rest
-      ]
+  filtered_of r (x ∷ xs) = grind (arith, filtered_of r xs)
 
 module _ (m : List ℕ) where
   pub found_standing : (rs : List Record) (n : ℕ) → buffer_in (all_standing m rs) n ≡ option_map (standing m) (record_in rs n)
@@ -49,20 +25,7 @@ module _ (m : List ℕ) where
 
   pub handed_standing : (n : ℕ) (rs : List Record) → all_standing m (changed (is_record_at n) hand_over rs) ≡ changed (is_made_at n) hand_out (all_standing m rs)
   handed_standing n [] = refl
-  handed_standing n (r ∷ rs) =
-      let rest = handed_standing n rs in
-      elim (r.made == n) as (λ b. standing m (cond b (hand_over r) r) ∷ all_standing m (changed (is_record_at n) hand_over rs) ≡ cond b (hand_out (standing m r)) (standing m r) ∷ changed (is_made_at n) hand_out (all_standing m rs)) [
-        | true ↦ ap (λ bs. hand_out (standing m r) ∷ bs) rest
-        | false ↦ ap (λ bs. standing m r ∷ bs) rest
-      ]
-
-  pub without_standing : (r : Record) (old new : List Record) → IsWithout r old new → IsWithout (standing m r) (all_standing m old) (all_standing m new)
-  without_standing r old new gone = record {
-    index = gone.index;
-    within = (let lt = gone.within in omega (arith, length-map old (standing m), lt));
-    at = λ d. ap (standing m) (gone.at r) ∙ sym (get_or-map (standing m) old gone.index r d gone.within);
-    left = ap (all_standing m) gone.left ∙ map_remove (standing m) old gone.index;
-  }
+  handed_standing n (r ∷ rs) = grind (arith, handed_standing n rs)
 
   -- those that weren't made at a place
   pub kept_standing : (n : ℕ) (rs : List Record) → all_standing m (filter (λ r. not (is_record_at n r)) rs) ≡ filter (λ b. not (is_made_at n b)) (all_standing m rs)
@@ -81,21 +44,6 @@ module _ (m : List ℕ) where
   made_standing [] = refl
   made_standing (r ∷ rs) = ap (λ ms. r.made ∷ ms) (made_standing rs)
 
-  made_of_found : (o : Option Record) → option_map made_of_buffer (option_map (standing m) o) ≡ option_map made_of_record o
-  made_of_found None = refl
-  made_of_found (Some r) = refl
-
-  pub next_standing : (rs : List Record) (from : ℕ) → next_made (all_standing m rs) from ≡ next_record rs from
-  next_standing rs from = ap (option_map made_of_buffer) (found_of (standing m) (λ b. nat_le from b.made) rs) ∙ made_of_found (find (λ r. nat_le from r.made) rs)
-
-  some_found : (o : Option Record) → is_some (option_map (standing m) o) ≡ is_some o
-  some_found None = refl
-  some_found (Some r) = refl
-
-  pub forgets_standing : (rs : List Record) (old new : WordMap ℕ) → ForgetsRecords rs old new → Forgets (all_standing m rs) old new
-  forgets_standing rs old new is = λ n.
-      is n ∙ ap (λ t. cond t None (look old (home_key n))) (sym (ap is_some (found_standing rs n) ∙ some_found (record_in rs n)))
-
   pub pushed_standing : (rs : List Record) (r : Record) → all_standing m (rs ++ r ∷ []) ≡ all_standing m rs ++ standing m r ∷ []
   pushed_standing rs r = map-append (standing m) rs (r ∷ [])
 
@@ -111,45 +59,26 @@ same_standing m n (r ∷ rs) all =
 
 pub standing_kept : (m n : List ℕ) (r : Record) → between r.start (r.start + r.data_size) n ≡ between r.start (r.start + r.data_size) m
     → between (r.start + round_up r.data_size) (r.start + round_up r.data_size + r.offsets_size) n ≡ between (r.start + round_up r.data_size) (r.start + round_up r.data_size + r.offsets_size) m → standing n r ≡ standing m r
-standing_kept m n r bytes offsets =
-    ap (λ xs. with_bytes r xs (between (r.start + round_up r.data_size) (r.start + round_up r.data_size + r.offsets_size) n)) bytes
-    ∙ ap (λ xs. with_bytes r (between r.start (r.start + r.data_size) m) xs) offsets
+standing_kept m n r bytes offsets = search arith
 
 -- memory of which all stays that there was
 module _ (m n : List ℕ) (kept : (i j : ℕ) → j ≤ length m → between i j n ≡ between i j m) where
   stays : (r : Record) → IsInMemory m r → standing n r ≡ standing m r
-  stays r is =
-      let inside = is.inside in
-      let parts = is.parts in
-      standing_kept m n r (kept r.start (r.start + r.data_size) (omega (arith, inside, parts)))
-      (kept (r.start + round_up r.data_size) (r.start + round_up r.data_size + r.offsets_size) (omega (arith, inside, parts)))
+  stays r is = search arith
 
   pub all_stay : (rs : List Record) → All (IsInMemory m) rs → all_standing n rs ≡ all_standing m rs
   all_stay rs all = same_standing m n rs (λ k d lt. stays (get_or rs k d) (all k d lt))
 
 pub in_longer : (m n : List ℕ) (rs : List Record) → length m ≤ length n → All (IsInMemory m) rs → All (IsInMemory n) rs
-in_longer m n rs le all k d lt =
-    let is = all k d lt in
-    let inside = is.inside in
-    record { inside = omega (arith, inside, le); parts = is.parts }
+in_longer m n rs le all k d lt = search arith
 
 -- ---- what is lent from memory, and laid out in it
 
 -- a record's buffer has as many bytes as it says
 pub sized_there : (m : List ℕ) (r : Record) → IsInMemory m r → IsSized r (standing m r).bytes (standing m r).offsets
-sized_there m r is =
-    let inside = is.inside in
-    let parts = is.parts in
-    record {
-      data_sized = (let len = length-between m r.start (r.start + r.data_size) (omega (arith, inside, parts)) in omega (arith, len));
-      offsets_sized = (let at = r.start + round_up r.data_size in let len = length-between m at (at + r.offsets_size) (omega (arith, inside, parts)) in omega (arith, len));
-    }
+sized_there m r is = search (arith, length-between)
 
 pub laid_is : (mid new : List ℕ) (r : Record) (b : Buffer) → b ≡ with_bytes r b.bytes b.offsets → IsSized r b.bytes b.offsets
     → between r.start (r.start + length b.bytes) mid ≡ b.bytes → between r.start (r.start + length b.bytes) new ≡ between r.start (r.start + length b.bytes) mid
     → between (r.start + round_up r.data_size) (r.start + round_up r.data_size + length b.offsets) new ≡ b.offsets → standing new r ≡ b
-laid_is mid new r b own sized bytes kept offsets =
-    ap (λ k. with_bytes r (between r.start (r.start + k) new) (between (r.start + round_up r.data_size) (r.start + round_up r.data_size + r.offsets_size) new)) sized.data_sized
-    ∙ ap (λ k. with_bytes r (between r.start (r.start + length b.bytes) new) (between (r.start + round_up r.data_size) (r.start + round_up r.data_size + k) new)) sized.offsets_sized
-    ∙ ap (λ xs. with_bytes r xs (between (r.start + round_up r.data_size) (r.start + round_up r.data_size + length b.offsets) new)) (kept ∙ bytes)
-    ∙ ap (λ xs. with_bytes r b.bytes xs) offsets ∙ sym own
+laid_is mid new r b own sized bytes kept offsets = search arith

@@ -1,24 +1,14 @@
 -- What is free of a window, by bytes and by units of eight.
+use Rattle.std.proofs.{lemmas.Grind.{common_steps}, Math.Bool.{and_assoc, and-true, and-false, or-true, or-false}, lemmas.Bool.{cases_lt, cases_Bool, false≢true}}
+use Rattle.std.proofs.{lemmas.List.Elements.{All-weaker, All-cons}, lemmas.List.Sums.{AllPass-from_list_all, list_all-from_AllPass}}
 use Rattle.std.proofs.Common.{◌≡◌, ℕ, zero, suc, ◌+◌, ◌-◌, ◌*◌, ◌/◌, ◌%◌, ◌<◌, ◌≤◌, Bool, true, false, cond, List, [], ◌∷◌, ◌++◌, length, get_or, map, refl, ap, sym, ◌∙◌, subst, arith, inl, inr, All}
-use Rattle.std.specs.Prelude.{◌&&◌, ◌||◌, not, remove, Some, None, AllPairs}
-use Rattle.std.specs.List.{list_all}
-use Rattle.std.proofs.Math.Bool.{and_assoc, and-true, and-false, or-true, or-false}
-use Rattle.std.proofs.lemmas.Bool.{cases_lt, cases_Bool, false≢true}
-use Rattle.std.proofs.lemmas.List.Elements.{All-weaker, All-cons}
-use Rattle.std.proofs.lemmas.List.Sums.{AllPass-from_list_all, list_all-from_AllPass}
+use Rattle.std.specs.{Prelude.{◌&&◌, ◌||◌, not, remove, Some, None, AllPairs}, List.{list_all}}
 use Rattle.bd_keys.proofs.Rising.{pairs_head, pairs_tail}
-use Rattle.bd_ground.specs.declared.spans.Spans.{Spans}
-use Rattle.bd_ground.specs.Tiles.{Tiles, IsRun, IsLeastRun, Begins, is_in, without, with_span}
+use Rattle.bd_ground.specs.{declared.spans.Spans.{Spans}, Tiles.{Tiles, IsRun, IsLeastRun, Begins, is_in, without, with_span}}
 use Rattle.bd_ground.specs.Holes as units
-use Rattle.bd_ground.proofs.Bits.{IsIn, IsOut, in_or_out, is_in_true, is_in_false, clash}
-use Rattle.bd_ground.proofs.Tiling.{tiles_same, begins_of_least}
-use Rattle.bd_space.specs.declared.space.Buffer.{Buffer}
-use Rattle.bd_space.specs.Words.{changed}
-use Rattle.bd_space.specs.Windows.{start_in}
-use Rattle.bd_space.specs.ReadItems.{hand_out}
-use Rattle.bd_buffers.specs.Buffer.{IsApart, IsPlaced}
-use Rattle.bd_buffers.specs.Holes.{Covered, Spaced, IsHoles, in_bytes}
-use Rattle.bd_buffers.specs.Rows.{IsWithout}
+use Rattle.bd_ground.proofs.{Bits.{IsIn, IsOut, in_or_out, is_in_true, is_in_false, clash}, Tiling.{tiles_same, begins_of_least}}
+use Rattle.bd_space.specs.{declared.space.Buffer.{Buffer}, Words.{changed}, Windows.{start_in}, ReadItems.{hand_out}}
+use Rattle.bd_buffers.specs.{Buffer.{IsApart, IsPlaced}, Holes.{Covered, Spaced, IsHoles, in_bytes}, Rows.{IsWithout}}
 use Rattle.bd_buffers.specs.Window.{IsFree, IsLeastFree, IsWindow, is_free_byte, is_free_unit}
 use Rattle.bd_buffers.proofs.Places.{start_at, no_start_at}
 
@@ -34,40 +24,25 @@ out_from : (q : ℕ) (b : Buffer) → IsOutOf q b → not (is_in b.start b.size 
 out_from q b out = ap not (is_in_false b.start b.size q out)
 
 pub free_out : (bs : List Buffer) (q : ℕ) → is_free_byte bs q ≡ true → All (IsOutOf q) bs
-free_out bs q t =
-    All-weaker (λ b. not (is_in b.start b.size q) ≡ true) (IsOutOf q) (out_is q) bs (AllPass-from_list_all (λ b. not (is_in b.start b.size q)) bs t)
+free_out bs q t = search (arith, All-weaker, AllPass-from_list_all)
 
 pub out_free : (bs : List Buffer) (q : ℕ) → All (IsOutOf q) bs → is_free_byte bs q ≡ true
-out_free bs q all =
-    list_all-from_AllPass (λ b. not (is_in b.start b.size q)) bs (All-weaker (IsOutOf q) (λ b. not (is_in b.start b.size q) ≡ true) (out_from q) bs all)
+out_free bs q all = search (arith, list_all-from_AllPass, All-weaker)
 
 -- a buffer has all of a unit or nothing
 pub to_byte : (size q : ℕ) (b : Buffer) → IsPlaced size b → IsOutOf (8 * (q / 8)) b → IsOutOf q b
-to_byte size q b is out =
-    let aligned = is.aligned in
-    let sized = is.sized in
-    elim out [ inl lt ↦ inl (omega (arith, aligned, lt)) | inr le ↦ inr (omega (arith, le)) ]
+to_byte size q b is out = search arith
 
 pub to_unit : (size q : ℕ) (b : Buffer) → IsPlaced size b → IsOutOf q b → IsOutOf (8 * (q / 8)) b
-to_unit size q b is out =
-    let aligned = is.aligned in
-    let sized = is.sized in
-    elim out [ inl lt ↦ inl (omega (arith, lt)) | inr le ↦ inr (omega (arith, aligned, sized, le)) ]
+to_unit size q b is out = search arith
 
 unit_in : (size u : ℕ) (b : Buffer) → IsPlaced size b → is_in (b.start / 8) (b.size / 8) u ≡ is_in b.start b.size (8 * u)
-unit_in size u b is =
-    let aligned = is.aligned in
-    let sized = is.sized in
-    elim (in_or_out b.start b.size (8 * u)) [
-      | inl own ↦ rw (is_in_true b.start b.size (8 * u) own) (is_in_true (b.start / 8) (b.size / 8) u (omega (arith, aligned, own.0), omega (arith, aligned, sized, own.1)))
-      | inr out ↦ rw (is_in_false b.start b.size (8 * u) out)
-          (is_in_false (b.start / 8) (b.size / 8) u (elim out [ inl lt ↦ inl (omega (arith, aligned, lt)) | inr le ↦ inr (omega (arith, aligned, sized, le)) ]))
-    ]
+unit_in size u b is = search arith
 
 -- ---- room
 
 pub filled : (size : ℕ) (b : Buffer) → IsPlaced size b → 8 ≤ b.size
-filled size b is = let sized = is.sized in omega (arith, sized)
+filled size b is = omega arith
 
 -- bytes that are free keep a span apart from a buffer
 apart_from : (n s : ℕ) (b : Buffer) → 0 < n → 0 < b.size → ((q : ℕ) → s ≤ q → q < s + n → IsOutOf q b) → IsApart s n b
@@ -87,10 +62,9 @@ module _ (size m : ℕ) (bs : List Buffer) (whole : size ≡ 8 * m) (placed : Al
   -- a run of free units is room for as many bytes
   run_is_free : (n k : ℕ) → 0 < n → IsRun (is_free_unit bs) m n k → IsFree size bs (8 * n) (8 * k)
   run_is_free n k pos run =
-      let inside = run.inside in
       record {
         aligned = omega arith;
-        inside = omega (arith, inside, whole);
+        inside = omega (arith, whole);
         free = λ i d lt.
             let b = get_or bs i d in
             let is = placed i d lt in
@@ -100,19 +74,10 @@ module _ (size m : ℕ) (bs : List Buffer) (whole : size ≡ 8 * m) (placed : Al
       }
 
   free_is_run : (n k : ℕ) → IsFree size bs (8 * n) (8 * k) → IsRun (is_free_unit bs) m n k
-  free_is_run n k room =
-      let inside = room.inside in
-      record {
-        inside = omega (arith, inside, whole);
-        all_free = λ u from to. out_free bs (8 * u) (λ i d lt. elim (room.free i d lt) [ inl before ↦ inl (omega (arith, before, to)) | inr after ↦ inr (omega (arith, after, from)) ]);
-      }
+  free_is_run n k room = grind (arith, out_free)
 
   at_whole : (n q : ℕ) → IsFree size bs n q → IsFree size bs n (8 * (q / 8))
-  at_whole n q room =
-      let aligned = room.aligned in
-      let P : ℕ → Type 0 = λ p. IsFree size bs n p in
-      let same : q ≡ 8 * (q / 8) = omega (arith, aligned) in
-      subst P same room
+  at_whole n q room = search arith
 
   least_in_bytes : (n k : ℕ) → 0 < n → IsLeastRun (is_free_unit bs) m n k → IsLeastFree size bs (8 * n) (8 * k)
   least_in_bytes n k pos is = record {
@@ -144,10 +109,9 @@ module _ (size m : ℕ) (bs : List Buffer) (whole : size ≡ 8 * m) (placed : Al
   -- and there a hole begins that has the room, or the tail
   pub begins_there : (t : Spans) (n p : ℕ) → t.size ≡ m → Tiles (is_free_unit bs) t → 8 ≤ n → n % 8 ≡ 0 → IsLeastFree size bs n p → Begins t (n / 8) (p / 8)
   begins_there t n p e tiles full aligned is =
-      let on = is.room.aligned in
       let P : ℕ → ℕ → Type 0 = λ x y. IsLeastFree size bs x y in
       let room : n ≡ 8 * (n / 8) = omega (arith, aligned) in
-      let place : p ≡ 8 * (p / 8) = omega (arith, on) in
+      let place : p ≡ 8 * (p / 8) = omega arith in
       let R : ℕ → Type 0 = λ x. IsLeastRun (is_free_unit bs) x (n / 8) (p / 8) in
       let least = least_in_units (n / 8) (p / 8) (omega (arith, full)) (subst (P (8 * (n / 8))) place (subst (λ x. P x p) room is)) in
       begins_of_least (is_free_unit bs) t tiles (n / 8) (p / 8) (omega (arith, full)) (subst R (sym e) least)
@@ -156,14 +120,10 @@ module _ (size m : ℕ) (bs : List Buffer) (whole : size ≡ 8 * m) (placed : Al
 
 free_more : (bs : List Buffer) (b : Buffer) (q : ℕ) → is_free_byte bs q && not (is_in b.start b.size q) ≡ is_free_byte (bs ++ b ∷ []) q
 free_more [] b q = sym (and-true (not (is_in b.start b.size q)))
-free_more (x ∷ bs) b q =
-    and_assoc (not (is_in x.start x.size q)) (is_free_byte bs q) (not (is_in b.start b.size q))
-    ∙ ap (λ (t : Bool). not (is_in x.start x.size q) && t) (free_more bs b q)
+free_more (x ∷ bs) b q = grind (arith, and_assoc, free_more bs b q)
 
 pub tiles_more : (size : ℕ) (bs : List Buffer) (b : Buffer) (t : Spans) → IsPlaced size b → Tiles (without (b.start / 8) (b.size / 8) (is_free_unit bs)) t → Tiles (is_free_unit (bs ++ b ∷ [])) t
-tiles_more size bs b t is tiles =
-    tiles_same (without (b.start / 8) (b.size / 8) (is_free_unit bs)) (is_free_unit (bs ++ b ∷ [])) t
-    (λ u. ap (λ x. is_free_unit bs u && not x) (unit_in size u b is) ∙ free_more bs b (8 * u)) tiles
+tiles_more size bs b t is tiles = grind (arith, common_steps, tiles_same, unit_in, free_more)
 
 -- ---- one less
 
@@ -185,11 +145,7 @@ others_out size i q bs b is lt at own =
 all_removed : {A : Type 0} (p : A → Bool) (xs : List A) (i : ℕ) (d : A) → i < length xs → list_all p xs ≡ (p (get_or xs i d) && list_all p (remove xs i))
 all_removed p [] i d lt = absurd (omega arith)
 all_removed p (x ∷ xs) zero d lt = refl
-all_removed p (x ∷ xs) (suc i) d lt = ap (λ t. p x && t) (all_removed p xs i d (omega arith)) ∙ swapped (p x) (p (get_or xs i d)) (list_all p (remove xs i))
-  where
-    swapped : (a b c : Bool) → (a && (b && c)) ≡ (b && (a && c))
-    swapped true b c = refl
-    swapped false b c = sym (and-false b)
+all_removed p (x ∷ xs) (suc i) d lt = grind (arith, and-false, all_removed p xs i d (omega arith))
 
 free_less : (size u : ℕ) (b : Buffer) (bs new : List Buffer) → IsWindow size bs → IsWithout b bs new → with_span (b.start / 8) (b.size / 8) (is_free_unit bs) u ≡ is_free_unit new u
 free_less size u b bs new window gone =
@@ -209,21 +165,11 @@ free_less size u b bs new window gone =
     ])
 
 pub tiles_less : (size : ℕ) (b : Buffer) (bs new : List Buffer) (t : Spans) → IsWindow size bs → IsWithout b bs new → Tiles (with_span (b.start / 8) (b.size / 8) (is_free_unit bs)) t → Tiles (is_free_unit new) t
-tiles_less size b bs new t window gone tiles =
-    tiles_same (with_span (b.start / 8) (b.size / 8) (is_free_unit bs)) (is_free_unit new) t (λ u. free_less size u b bs new window gone) tiles
+tiles_less size b bs new t window gone tiles = search (arith, tiles_same, free_less)
 
 -- none of a buffer's units is free
 pub taken_units : (size u : ℕ) (b : Buffer) (bs new : List Buffer) → IsWindow size bs → IsWithout b bs new → b.start / 8 ≤ u → u < b.start / 8 + b.size / 8 → is_free_unit bs u ≡ false
-taken_units size u b bs new window gone from to =
-    let placed : IsPlaced size b = rw (gone.at b) (window.placed gone.index b gone.within) in
-    let aligned = placed.aligned in
-    let sized = placed.sized in
-    elim (cases_Bool (is_free_unit bs u)) [
-      | inr taken ↦ taken
-      | inl free ↦ (
-          let out : IsOutOf (8 * u) b = rw (gone.at b) (free_out bs (8 * u) free gone.index b gone.within) in
-          absurd (elim out [ inl lt ↦ omega (arith, lt, from) | inr le ↦ omega (arith, le, to, aligned, sized) ]))
-    ]
+taken_units size u b bs new window gone from to = grind (arith, cases_Bool, free_out)
 
 -- so they lie before the tail
 pub before_tail : (size : ℕ) (b : Buffer) (bs new : List Buffer) (t : Spans) → IsWindow size bs → IsWithout b bs new → Tiles (is_free_unit bs) t → b.start / 8 + b.size / 8 ≤ t.tail
@@ -240,9 +186,7 @@ before_tail size b bs new t window gone tiles =
 
 free_handed : (p : Buffer → Bool) (bs : List Buffer) (q : ℕ) → is_free_byte bs q ≡ is_free_byte (changed p hand_out bs) q
 free_handed p [] q = refl
-free_handed p (x ∷ bs) q =
-    let rest = ap (λ t. not (is_in x.start x.size q) && t) (free_handed p bs q) in
-    elim (p x) as (λ k. is_free_byte (x ∷ bs) q ≡ is_free_byte (cond k (hand_out x) x ∷ changed p hand_out bs) q) [ true ↦ rest | false ↦ rest ]
+free_handed p (x ∷ bs) q = grind (arith, free_handed p bs q)
 
 pub tiles_handed : (p : Buffer → Bool) (bs : List Buffer) (t : Spans) → Tiles (is_free_unit bs) t → Tiles (is_free_unit (changed p hand_out bs)) t
 tiles_handed p bs t tiles = tiles_same (is_free_unit bs) (is_free_unit (changed p hand_out bs)) t (λ u. free_handed p bs (8 * u)) tiles
@@ -276,18 +220,4 @@ module _ (size m tail : ℕ) (whole : size ≡ 8 * m) where
 
   -- the holes of the free units are those of the bytes that no buffer has
   pub holes_are : (bs : List Buffer) (hs : List units.Hole) → All (IsPlaced size) bs → units.AreHoles (is_free_unit bs) m tail hs → IsHoles size bs (8 * tail) (map in_bytes hs)
-  holes_are bs hs placed is =
-      let within = is.within in
-      record {
-        spaced = spaced_bytes tail 0 0 hs is.spaced (omega arith);
-        within = omega (arith, within, whole);
-        free = λ q c.
-            let unit = covered_unit hs q c in
-            let inside = covered_inside 0 hs (q / 8) is.spaced is.within unit in
-            let out = free_out bs (8 * (q / 8)) (is.free_only (q / 8) unit) in
-            (omega (arith, inside, whole), λ k d lt. to_byte size q (get_or bs k d) (placed k d lt) (out k d lt));
-        covered = λ q f.
-            let inside = f.0 in
-            let out = out_free bs (8 * (q / 8)) (λ k d lt. to_unit size q (get_or bs k d) (placed k d lt) (f.1 k d lt)) in
-            covered_byte hs q (is.all_free (q / 8) (omega (arith, inside, whole)) out);
-      }
+  holes_are bs hs placed is = grind (arith, spaced_bytes, covered_unit, covered_inside, free_out, to_byte, out_free, to_unit, covered_byte)

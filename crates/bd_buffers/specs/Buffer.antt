@@ -2,8 +2,7 @@
 use Rattle.std.specs.Prelude.{ℕ, ◌≡◌, ◌+◌, ◌%◌, ◌≤◌, ◌==◌, ◌&&◌, ◌⊎◌, Bool, Option, Some, None, Result, Ok, Err, length, if◌then◌else◌}
 use Rattle.bd_ways.specs.Words.{Note, Buffer, round_up}
 use Rattle.bd_uapi.specs.declared.fault.Note.TheVariants.{NoSuchBuffer, NotHandedOut}
-use Rattle.bd_space.specs.Windows.{needed}
-use Rattle.bd_space.specs.Freeing.{pointer}
+use Rattle.bd_space.specs.{Windows.{needed}, Freeing.{pointer}}
 
 -- n bytes from p on have no byte in common with a buffer
 abbrev pub IsApart : ℕ → ℕ → Buffer → Type 0

@@ -1,6 +1,5 @@
 -- What is kept of a buffer, and the buffer with its bytes where they stand.
-use Rattle.std.specs.Prelude.{ℕ, ◌≡◌, ◌+◌, ◌≤◌, ◌==◌, Bool, true, List, [], Option, find, length, map, nat_le, option_map}
-use Rattle.std.specs.List.{between}
+use Rattle.std.specs.{Prelude.{ℕ, ◌≡◌, ◌+◌, ◌≤◌, ◌==◌, Bool, true, List, [], Option, find, length, map}, List.{between}}
 use Rattle.bd_ways.specs.Words.{Buffer, round_up}
 use Rattle.bd_buffers.specs.declared.record.Record.{Record}
 
@@ -58,7 +57,3 @@ all_standing memory records = map (standing memory) records
 
 abbrev pub made_of_record : Record → ℕ
 made_of_record r = r.made
-
--- where the first of these that was made at this place or behind it was made
-abbrev pub next_record : List Record → ℕ → Option ℕ
-next_record records from = option_map made_of_record (find (λ r. nat_le from r.made) records)

@@ -1,7 +1,7 @@
 -- Buffers in rows, in the order in which they were made. The row of a buffer that ended takes no bytes any more.
-use Rattle.std.specs.Prelude.{ℕ, ◌≡◌, ◌-◌, ◌<◌, ◌==◌, Bool, false, not, List, ◌++◌, Option, Some, None, length, filter, option_map, unwrap_or, All, AllPairs, remove, slice_index_or, if◌then◌else◌}
+use Rattle.std.specs.Prelude.{ℕ, ◌≡◌, ◌-◌, ◌<◌, ◌==◌, Bool, true, false, not, List, Option, Some, None, length, filter, map, option_map, unwrap_or, AllPairs, remove, slice_index_or, if◌then◌else◌}
 use Rattle.std.specs.List.{slice_get}
-use Rattle.bd_buffers.specs.declared.record.Record.{Record}
+use Rattle.bd_buffers.specs.{declared.record.Record.{Record}, Record.{made_of_record}}
 
 -- a row's buffer lives
 abbrev pub lives : Record → Bool
@@ -15,14 +15,20 @@ ended r = record r { size = 0 }
 abbrev pub live : List Record → List Record
 live rows = filter lives rows
 
+-- where they were made
+abbrev pub live_places : List Record → List ℕ
+live_places rows = map made_of_record (live rows)
+
 -- what is found, if it is kept
 abbrev pub kept : {A : Type 0} → (A → Bool) → Option A → Option A
 kept keep None = None
 kept keep (Some x) = if keep x then Some x else None
 
--- the buffer in a row, if it lives; past the rows there is none
-abbrev pub in_row : List Record → ℕ → Option Record
-in_row rows i = kept lives (slice_get rows i)
+-- the live buffer made at a place stands in the row of this index
+pub record IsLiveRow (rows : List Record) (made i : ℕ) : Type 0 where
+  pub within : i < length rows
+  pub made_there : (d : Record) → (slice_index_or rows i d).made ≡ made
+  pub lives_there : (d : Record) → lives (slice_index_or rows i d) ≡ true
 
 -- ---- what is so of all rows
 
@@ -34,14 +40,6 @@ pub record AreRows (rows : List Record) : Type 0 where
   pub in_order : AllPairs (λ a b. a.made < b.made) rows
   pub ends : ends_empty rows ≡ false
 
--- ---- changes
-
--- empty rows at the end went
-pub record IsTrimmed (old new : List Record) : Type 0 where
-  pub gone : List Record
-  pub split : old ≡ new ++ gone
-  pub empty : All (λ r. lives r ≡ false) gone
-
 -- this one went, and the others stay in order
 pub record IsWithout {A : Type 0} (b : A) (old new : List A) : Type 0 where
   pub index : ℕ
@@ -49,7 +47,7 @@ pub record IsWithout {A : Type 0} (b : A) (old new : List A) : Type 0 where
   pub at : (d : A) → b ≡ slice_index_or old index d
   pub left : new ≡ remove old index
 
--- rows as contracts see them, and how many more there is room for
+-- live buffers as contracts see them, and how many more there is room for
 pub record RowsView : Type 0 where
-  pub rows : List Record
+  pub records : List Record
   pub room : ℕ

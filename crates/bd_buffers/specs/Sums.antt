@@ -2,9 +2,7 @@
 use Rattle.std.specs.Prelude.{ℕ, ◌≡◌, ◌==◌, List, Option, Some, None, unwrap_or, if◌then◌else◌}
 use Rattle.bd_ways.specs.Words.{Buffer}
 use Rattle.bd_space.specs.Spam.{one_way_from}
-use Rattle.bd_keys.specs.declared.key.WordKey.{WordKey}
-use Rattle.bd_keys.specs.declared.map.WordMap.{WordMap}
-use Rattle.bd_keys.specs.Look.{look}
+use Rattle.bd_keys.specs.{declared.key.WordKey.{WordKey}, declared.map.WordMap.{WordMap}, Look.{look}}
 
 -- the place of the sender's process alone tells it apart
 abbrev pub sender_key : ℕ → WordKey

@@ -1,17 +1,11 @@
 -- A window: room for a buffer, the budget of one-way buffers, and what is so of every window.
-use Rattle.std.specs.Prelude.{ℕ, ◌≡◌, ◌+◌, length, slice_index, ◌*◌, ◌/◌, ◌%◌, ◌<◌, ◌≤◌, Bool, not, List, filter, sum_by, min, IsTrue, All, AllPairs}
+use Rattle.std.specs.{Prelude.{ℕ, ◌≡◌, ◌+◌, length, slice_index, ◌*◌, ◌/◌, ◌%◌, ◌<◌, ◌≤◌, Bool, not, List, filter, sum_by, min, IsTrue, All, AllPairs}, List.{list_all}}
 use Rattle.bd_ways.specs.Words.{Cause, Buffer}
 use Rattle.bd_uapi.specs.declared.fault.Cause.TheVariants.{NoRoom, OverBudget}
-use Rattle.bd_buffers.specs.Buffer.{IsApart, IsPlaced}
-use Rattle.std.specs.List.{list_all}
+use Rattle.bd_buffers.specs.{Buffer.{IsApart, IsPlaced}, declared.rows.Rows.{Rows}, declared.ground.Ground.{Ground}, Holes.{Hole}, declared.record.Record.{Record}}
+use Rattle.bd_buffers.specs.{Record.{all_standing, IsInMemory}, Sums.{AreSums}}
 use Rattle.bd_ground.specs.Tiles.{Tiles, is_in}
-use Rattle.bd_buffers.specs.declared.rows.Rows.{Rows}
-use Rattle.bd_buffers.specs.declared.ground.Ground.{Ground}
 use Rattle.bd_keys.specs.Look.{word_room}
-use Rattle.bd_buffers.specs.Holes.{Hole}
-use Rattle.bd_buffers.specs.declared.record.Record.{Record}
-use Rattle.bd_buffers.specs.Record.{all_standing, IsInMemory}
-use Rattle.bd_buffers.specs.Sums.{AreSums}
 
 -- n bytes at p are free, in a window of this size with these live buffers
 pub record IsFree (size : ℕ) (buffers : List Buffer) (n p : ℕ) : Type 0 where

@@ -1,12 +1,9 @@
 -- What the windows of all live processes stand for.
 use Rattle.std.specs.Prelude.{ℕ, ◌≡◌, ◌+◌, ◌<◌, ◌≤◌, ◌==◌, nat_le, Bool, true, List, [], map, find, Option, option_map, Some, None, Ok, All, AllPairs}
 use Rattle.bd_ways.specs.Words.{Process, Buffer, Space}
-use Rattle.bd_space.specs.Seats.{lives_in}
-use Rattle.bd_space.specs.Windows.{buffers_of, start_for}
-use Rattle.bd_buffers.specs.declared.owned.OwnedWindow.{OwnedWindow}
-use Rattle.bd_buffers.specs.declared.windows.Windows.{Windows}
+use Rattle.bd_space.specs.{Seats.{lives_in}, Windows.{buffers_of, start_for}}
+use Rattle.bd_buffers.specs.{declared.owned.OwnedWindow.{OwnedWindow}, declared.windows.Windows.{Windows}, Homes.{AreHomes}}
 use Rattle.bd_keys.specs.Look.{word_room}
-use Rattle.bd_buffers.specs.Homes.{AreHomes}
 use Rattle.bd_buffers.specs.Buffer as buffer
 use Rattle.bd_buffers.specs.Stands as single
 pub use Rattle.bd_buffers.specs.Stands.{Stands}

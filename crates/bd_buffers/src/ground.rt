@@ -1,11 +1,11 @@
 //! Where the buffers of a window lie, what begins where, and what they leave free.
 
-ghost use Rattle.std.specs.Prelude.{◌≡◌, ◌+◌, ◌-◌, ◌/◌, ◌<◌, ◌≤◌, [], ℕ, Bool, List, false, MatchOption, OnOk, OnErr, length, slice_index};
+ghost use Rattle.std.specs.Prelude.{◌≡◌, ◌+◌, ◌-◌, ◌/◌, ◌<◌, ◌≤◌, [], ℕ, Bool, List, false, not, filter, OnOk, OnErr, length, slice_index};
 ghost use Rattle.bd_keys.specs.Look.{word_room};
 ghost use Rattle.bd_ground.specs.Tiles.{Tiles, with_span};
 ghost use Rattle.bd_buffers.specs.Buffer as spec;
-ghost use Rattle.bd_buffers.specs.{declared.record.Record.{Record}, Record.{bare, all_standing}};
-ghost use Rattle.bd_buffers.specs.{Rows.{live, in_row, IsWithout}, Sums.{sum_at, AreNoted}};
+ghost use Rattle.bd_buffers.specs.{declared.record.Record.{Record}, Record.{bare, all_standing, is_record_at}};
+ghost use Rattle.bd_buffers.specs.Sums.{sum_at, AreNoted};
 ghost use Rattle.bd_buffers.specs.Window.{Keeps, room_left, reach_of};
 
 use crate::buffer::{one_way_share, unit_at};
@@ -117,18 +117,16 @@ impl Ground {
     }
 }
 
-/// Ends the buffer in a row, if there is one.
-pub(crate) fn end_row(buffers: &mut Rows, ground: &mut Ground, i: usize)
-    requires kept { Keeps (live buffers.old.rows) ground.old }
-    ensures kept { Keeps (live buffers.new.rows) ground.new }
+/// Ends the buffer made there, if there is one.
+pub(crate) fn end_made(buffers: &mut Rows, ground: &mut Ground, made: u64)
+    requires kept { Keeps buffers.old.records ground.old }
+    ensures kept { Keeps buffers.new.records ground.new }
     ensures size { ground.new.size ≡ ground.old.size }
     ensures memory { ground.new.memory ≡ ground.old.memory }
-    ensures live { MatchOption (in_row buffers.old.rows i)
-        (live buffers.new.rows ≡ live buffers.old.rows)
-        (λ b. IsWithout b (live buffers.old.rows) (live buffers.new.rows)) }
+    ensures left { buffers.new.records ≡ filter (λ r. not (is_record_at made r)) buffers.old.records }
     ensures room { room_left buffers.old ground.old ≤ room_left buffers.new ground.new }
 {
-    if let Some(record) = buffers.take_at(i) {
+    if let Some(record) = buffers.take(made) {
         ground.release(&record);
     }
 }

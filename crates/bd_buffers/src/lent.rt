@@ -139,6 +139,9 @@ impl<'a> Lent<'a> {
     // All but its bytes.
     pub(crate) fn record(&self) -> Record
         ensures record { self.now ≡ spec.with_bytes result self.now.bytes self.now.offsets }
+        ensures made { result.made ≡ self.now.made }
+        ensures start { result.start ≡ self.now.start }
+        ensures size { result.size ≡ self.now.size }
         ensures sized { spec.IsSized result self.now.bytes self.now.offsets }
     {
         *self.noted
@@ -170,11 +173,15 @@ pub(crate) fn lent_from<'a>(memory: &'a Memory, noted: &'a Record) -> Lent<'a>
 
 /// Lays a new buffer out in memory: the data where it begins, and the offsets behind them, at a multiple of 8. Answers its
 /// record.
+#[tactic(auto, using(crate::proofs::Standing::laid_is, crate::proofs::Standing::standing_kept))]
 pub(crate) fn lay(memory: &mut Memory, buffer: &Lent<'_>) -> Record
     requires inside { buffer.now.start + buffer.now.size ≤ length memory.old }
     requires parts { round_up (length buffer.now.bytes) + round_up (length buffer.now.offsets) ≤ buffer.now.size }
     ensures len { length memory.new ≡ length memory.old }
     ensures standing { spec.standing memory.new result ≡ buffer.now }
+    ensures made { result.made ≡ buffer.now.made }
+    ensures start { result.start ≡ buffer.now.start }
+    ensures size { result.size ≡ buffer.now.size }
     ensures inside { spec.IsInMemory memory.new result }
     ensures others { (r : Record) → spec.IsInMemory memory.old r
         → (r.start + r.size ≤ buffer.now.start) ⊎ (buffer.now.start + buffer.now.size ≤ r.start)

@@ -4,8 +4,9 @@ ghost use Rattle.std.specs.Prelude.{◌≡◌, ◌<◌, ◌↔◌, not, All, IsT
 ghost use Rattle.std.specs.Option.{option_copied};
 ghost use Rattle.bd_space.specs.{Words.{changed}, Freeing.{is_made_at}, ReadItems.{hand_out}};
 ghost use Rattle.bd_buffers.specs.{Homes.{Forgets}, Owners.{AreInOrder, StandsAt}};
-ghost use Rattle.bd_buffers.specs.WindowsStand.{buffers_held, is_of, is_owned_by, seen, with_buffers};
+ghost use Rattle.bd_buffers.specs.WindowsStand.{buffers_held, made_of_buffer, is_of, is_owned_by, seen, with_buffers};
 
+use crate::listing::forget;
 use crate::window::Window;
 use bd_keys::WordMap;
 
@@ -25,6 +26,7 @@ impl OwnedWindow {
 }
 
 /// Where the window of a process stands: as guessed, or as found by halves.
+#[tactic(auto, using(std::proofs::lemmas::List::get_or_default))]
 pub(crate) fn position_of(windows: &[OwnedWindow], p: u64, guess: u32) -> Option<usize>
     requires order { AreInOrder windows.now }
     ensures { StandsAt windows.now p result }
@@ -59,6 +61,7 @@ pub(crate) fn is_last(windows: &[OwnedWindow], owner: u64) -> bool
 }
 
 /// Ends the buffer made there, in the window of a process.
+#[tactic(auto, using(crate::proofs::AllWindows::one_missed))]
 pub(crate) fn free_in(windows: &mut Vec<OwnedWindow>, p: u64, guess: u32, made: u64)
     requires order { AreInOrder windows.old.items }
     ensures { map seen windows.new.items ≡
@@ -70,6 +73,7 @@ pub(crate) fn free_in(windows: &mut Vec<OwnedWindow>, p: u64, guess: u32, made: 
 }
 
 /// Marks the buffer made there, in the window of a process, as handed out.
+#[tactic(auto, using(crate::proofs::AllWindows::one_made, crate::proofs::AllWindows::one_missed))]
 pub(crate) fn hand_out_in(windows: &mut Vec<OwnedWindow>, p: u64, guess: u32, made: u64)
     requires order { AreInOrder windows.old.items }
     ensures { map seen windows.new.items ≡
@@ -83,10 +87,10 @@ pub(crate) fn hand_out_in(windows: &mut Vec<OwnedWindow>, p: u64, guess: u32, ma
 /// Forgets the homes of the live buffers of a process, and no others.
 pub(crate) fn forget_in(homes: &mut WordMap<u64>, windows: &[OwnedWindow], p: u64, guess: u32)
     requires order { AreInOrder windows.now }
-    ensures { Forgets (buffers_held (find (is_owned_by p) windows.now)) homes.old homes.new }
+    ensures { Forgets (map made_of_buffer (buffers_held (find (is_owned_by p) windows.now))) homes.old homes.new }
 {
     if let Some(w) = owned_by(windows, p, guess) {
-        w.window.forget_homes(homes);
+        forget(homes, w.window.rows());
     }
 }
 

@@ -1,17 +1,17 @@
 //! Buffers in rows, in the order in which they were made.
 
-ghost use Rattle.std.specs.Prelude.{ℕ, ◌≡◌, ◌↔◌, ◌+◌, ◌<◌, ◌≤◌, ◌==◌, ◌++◌, ◌∷◌, [], false, IsTrue, IfSome, All, AllPairs, MatchOption, OnOk, OnErr, length, set, take, slice_index_or, option_copied, vec_len, vec_capacity};
-ghost use Rattle.std.specs.{Option.{option_and_then}, List.Sorted.{IsPartitionPoint}};
+ghost use Rattle.std.specs.Prelude.{ℕ, ◌≡◌, ◌↔◌, ◌+◌, ◌<◌, ◌≤◌, ◌==◌, ◌++◌, ◌∷◌, [], not, false, None, IsTrue, All, AllPairs, MatchOption, OnOk, OnErr, filter, length, set, slice_index_or, option_copied, vec_len, vec_capacity};
+ghost use Rattle.std.specs.List.Sorted.{IsPartitionPoint};
 ghost use Rattle.bd_space.specs.Words.{changed};
 ghost use Rattle.bd_buffers.specs.Record.{is_record_at, record_in, hand_over};
-ghost use Rattle.bd_buffers.specs.Rows.{lives, live, in_row, ended, ends_empty, AreRows, IsTrimmed, IsWithout};
+ghost use Rattle.bd_buffers.specs.Rows.{lives, live, ended, ends_empty, AreRows, IsLiveRow};
 
 use crate::record::Record;
 use std::alloc::{AllocError, Global};
 use std::marker::Model;
 
-// Whether a row's buffer lives: each that does takes some bytes.
-fn is_live(row: &Record) -> bool
+/// Whether a row's buffer lives: each that does takes some bytes.
+pub(crate) fn is_live(row: &Record) -> bool
     ensures { result ≡ lives row.now }
 {
     row.size != 0
@@ -27,8 +27,8 @@ fn index_by_halves(rows: &[Record], made: u64) -> Option<usize>
     rows.binary_search_by_key(&made, |r| r.made).ok()
 }
 
-// The index of the first row that was made at a place or behind it.
-fn first_row(rows: &[Record], from: u64) -> usize
+/// The index of the first row that was made at a place or behind it.
+pub(crate) fn first_row(rows: &[Record], from: u64) -> usize
     requires order { AllPairs (λ a b. a.made < b.made) rows.now }
     ensures { IsPartitionPoint (λ r. r.made < from) (λ r. from ≤ r.made) rows.now result }
 {
@@ -49,6 +49,16 @@ fn index_among(rows: &[Record], made: u64) -> Option<usize>
     }
 }
 
+// The index of the row of the live buffer made there.
+#[tactic(auto, using(crate::proofs::Live::missed_row))]
+fn index_of(rows: &[Record], made: u64) -> Option<usize>
+    requires order { AllPairs (λ a b. a.made < b.made) rows.now }
+    ensures { MatchOption result (record_in (live rows.now) made ≡ None) (IsLiveRow rows.now made) }
+{
+    let i = index_among(rows, made)?;
+    if is_live(&rows[i]) { Some(i) } else { None }
+}
+
 // Whether the last row is empty.
 fn is_end_empty(rows: &[Record]) -> bool
     ensures { result ≡ ends_empty rows.now }
@@ -61,8 +71,9 @@ fn is_end_empty(rows: &[Record]) -> bool
 
 // Drops the empty rows at the end.
 fn trim(rows: &mut Vec<Record>)
-    ensures trimmed { IsTrimmed rows.old.items rows.new.items }
-    ensures ends { ends_empty rows.new.items ≡ false }
+    requires order { AllPairs (λ a b. a.made < b.made) rows.old.items }
+    ensures stand { AreRows rows.new.items }
+    ensures live { live rows.new.items ≡ live rows.old.items }
     ensures len { vec_len rows.new ≤ vec_len rows.old }
     ensures capacity { vec_capacity rows.new ≡ vec_capacity rows.old }
 {
@@ -82,19 +93,17 @@ fn pack(rows: &mut Vec<Record>)
     rows.retain(|r| r.size != 0);
 }
 
-// Takes the buffer out of a row. The row stays.
-fn take_from(rows: &mut Vec<Record>, i: usize) -> Option<Record>
-    ensures taken { result ≡ in_row rows.old.items i }
-    ensures left { MatchOption result (rows.new.items ≡ rows.old.items) (λ b. rows.new.items ≡ set rows.old.items i (ended b)) }
+// Ends the buffer of a row. The row stays.
+fn end_at(rows: &mut Vec<Record>, i: usize) -> Record
+    requires { i < length rows.old.items }
+    ensures taken { (d : Record) → result ≡ slice_index_or rows.old.items i d }
+    ensures left { (d : Record) → rows.new.items ≡ set rows.old.items i (ended (slice_index_or rows.old.items i d)) }
     ensures len { vec_len rows.new ≡ vec_len rows.old }
     ensures capacity { vec_capacity rows.new ≡ vec_capacity rows.old }
 {
-    if i >= rows.len() || !is_live(&rows[i]) {
-        return None;
-    }
     let record = rows[i];
     rows[i].size = 0;
-    Some(record)
+    record
 }
 
 // Marks the buffer of a row as handed out.
@@ -116,11 +125,11 @@ pub(crate) struct Rows {
 
 impl Model for Rows {
     ghost use Rattle.std.specs.Prelude.{◌-◌, vec_len, vec_capacity};
-    ghost use Rattle.bd_buffers.specs.Rows.{RowsView, AreRows};
+    ghost use Rattle.bd_buffers.specs.Rows.{RowsView, AreRows, live};
 
     ghost Value = { RowsView };
 
-    ghost view = { λ t. record { rows = t.rows.items; room = vec_capacity t.rows - vec_len t.rows } };
+    ghost view = { λ t. record { records = live t.rows.items; room = vec_capacity t.rows - vec_len t.rows } };
 
     ghost invariant = { λ t. AreRows t.rows.items };
 }
@@ -128,23 +137,24 @@ impl Model for Rows {
 impl Rows {
     /// No rows. Takes no memory.
     pub(crate) fn new(alloc: Global) -> Rows
-        ensures { result.rows ≡ [] }
+        ensures { result.records ≡ [] }
     {
         Rows {
             rows: Vec::new(alloc),
         }
     }
 
-    /// How many rows there are, the empty ones too.
-    pub(crate) fn len(&self) -> usize
-        ensures { result ≡ length self.now.rows }
+    /// All rows, the empty ones too.
+    pub(crate) fn as_slice(&self) -> &[Record]
+        ensures live { live result.now ≡ self.now.records }
+        ensures order { AllPairs (λ a b. a.made < b.made) result.now }
     {
-        self.rows.len()
+        self.rows.as_slice()
     }
 
     /// Makes room for so many more buffers. The empty rows may go.
     pub(crate) fn reserve(&mut self, more: usize) -> Result<(), AllocError>
-        ensures live { live self.new.rows ≡ live self.old.rows }
+        ensures records { self.new.records ≡ self.old.records }
         ensures uses { self.old.room ≤ self.new.room }
         ensures room { OnOk result (more ≤ self.new.room) }
         // Memory was asked for: there was no room.
@@ -160,7 +170,7 @@ impl Rows {
 
     /// Whether all live buffers were made before that place.
     pub(crate) fn is_newest(&self, made: u64) -> bool
-        ensures { IsTrue result ↔ All (λ b. b.made < made) (live self.now.rows) }
+        ensures { IsTrue result ↔ All (λ b. b.made < made) self.now.records }
     {
         match self.rows.last() {
             None => true,
@@ -172,67 +182,40 @@ impl Rows {
     pub(crate) fn push(&mut self, buffer: Record)
         requires room { 1 ≤ self.old.room }
         requires filled { 0 < buffer.size }
-        requires newest { All (λ b. b.made < buffer.made) (live self.old.rows) }
-        ensures live { live self.new.rows ≡ live self.old.rows ++ buffer ∷ [] }
+        requires newest { All (λ b. b.made < buffer.made) self.old.records }
+        ensures records { self.new.records ≡ self.old.records ++ buffer ∷ [] }
         ensures room { self.old.room ≤ self.new.room + 1 }
     {
         self.rows.push_reserved(buffer);
     }
 
-    /// The index of the row of the buffer made there.
-    pub(crate) fn index_of(&self, made: u64) -> Option<usize>
-        ensures { option_and_then (in_row self.now.rows) result ≡ record_in (live self.now.rows) made }
-    {
-        index_among(&self.rows, made)
-    }
-
-    /// The index of a row before which all live buffers were made before this place, and from which on none was. Found by halves.
-    pub(crate) fn first_from(&self, from: u64) -> usize
-        ensures before { All (λ b. b.made < from) (live (take result self.now.rows)) }
-        ensures behind { (i : ℕ) → result ≤ i → IfSome (in_row self.now.rows i) (λ b. from ≤ b.made) }
-    {
-        first_row(&self.rows, from)
-    }
-
-    /// The live buffer in a row.
-    pub(crate) fn in_row(&self, i: usize) -> Option<&Record>
-        ensures { option_copied result ≡ in_row self.now.rows i }
-    {
-        match self.rows.get(i) {
-            None => None,
-            Some(r) => { if is_live(r) { Some(r) } else { None } }
-        }
-    }
-
     /// The live buffer made there.
+    #[tactic(auto, using(crate::proofs::Live::found_row))]
     pub(crate) fn made_at(&self, made: u64) -> Option<&Record>
-        ensures { option_copied result ≡ record_in (live self.now.rows) made }
+        ensures { option_copied result ≡ record_in self.now.records made }
     {
-        match self.index_of(made) {
-            None => None,
-            Some(i) => self.in_row(i),
-        }
+        let i = index_of(&self.rows, made)?;
+        Some(&self.rows[i])
     }
 
-    /// Takes the buffer out of a row, if there is one.
-    pub(crate) fn take_at(&mut self, i: usize) -> Option<Record>
-        ensures taken { result ≡ in_row self.old.rows i }
-        ensures live { MatchOption result
-            (live self.new.rows ≡ live self.old.rows)
-            (λ b. IsWithout b (live self.old.rows) (live self.new.rows)) }
+    /// Ends the buffer made there, if there is one.
+    pub(crate) fn take(&mut self, made: u64) -> Option<Record>
+        ensures taken { result ≡ record_in self.old.records made }
+        ensures left { self.new.records ≡ filter (λ r. not (is_record_at made r)) self.old.records }
         ensures room { self.old.room ≤ self.new.room }
     {
-        let buffer = take_from(&mut self.rows, i)?;
+        let i = index_of(&self.rows, made)?;
+        let record = end_at(&mut self.rows, i);
         trim(&mut self.rows);
-        Some(buffer)
+        Some(record)
     }
 
     /// Marks the buffer made there as handed out.
     pub(crate) fn hand_out(&mut self, made: u64)
-        ensures live { live self.new.rows ≡ changed (is_record_at made) hand_over (live self.old.rows) }
+        ensures records { self.new.records ≡ changed (is_record_at made) hand_over self.old.records }
         ensures room { self.old.room ≤ self.new.room }
     {
-        if let Some(i) = index_among(&self.rows, made) {
+        if let Some(i) = index_of(&self.rows, made) {
             hand_out_at(&mut self.rows, i);
         }
     }

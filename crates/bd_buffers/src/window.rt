@@ -1,15 +1,14 @@
 //! A window.
 
-ghost use Rattle.std.specs.Prelude.{◌≡◌, ◌↔◌, ◌+◌, ◌*◌, ◌%◌, ◌<◌, ◌≤◌, [], ◌∷◌, ◌++◌, not, ℕ, Bool, List, All, length, filter, find, map, IsTrue, IsOk, IfOk, IfErr, IfSome, OnOk, OnErr};
+ghost use Rattle.std.specs.Prelude.{◌≡◌, ◌↔◌, ◌+◌, ◌*◌, ◌%◌, ◌<◌, ◌≤◌, [], ◌∷◌, ◌++◌, not, ℕ, Bool, List, All, length, filter, find, map, IsTrue, IsOk, IfOk, IfErr, IfSome, OnOk, OnErr, AllPairs};
 ghost use Rattle.bd_space.specs.{declared.space.Buffer.{Buffer}, Words.{changed}};
 ghost use Rattle.bd_space.specs.{Windows.{needed, start_in, over_budget_in, start_for}, Freeing.{is_made_at}};
 ghost use Rattle.bd_space.specs.{ReadItems.{hand_out}, Returns.{buffer_in}, Spam.{floods}};
 
 use crate::buffer::{needed, one_way_share, pointer_of};
-use crate::ground::{Ground, end_row, note};
-use crate::home::forget;
+use crate::ground::{Ground, end_made, note};
 use crate::lent::{Lent, lay, lent_from};
-use crate::listing::{list_made, next_from};
+use crate::record::Record;
 use crate::rows::Rows;
 use crate::senders::{raise, sum_of};
 use bd_ground::{Memory, Spans};
@@ -32,28 +31,28 @@ pub struct Window {
 
 impl Model for Window {
     ghost use Rattle.std.specs.Prelude.{◌*◌};
-    ghost use Rattle.bd_buffers.specs.{Rows.{live}, Record.{all_standing}, Holes.{holes_of}};
+    ghost use Rattle.bd_buffers.specs.{Record.{all_standing}, Holes.{holes_of}};
     ghost use Rattle.bd_buffers.specs.Window.{WindowView, Keeps, room_left, reach_of};
 
     ghost Value = { WindowView };
 
     ghost view = { λ w. record {
       size = w.ground.size;
-      buffers = all_standing w.ground.memory (live w.buffers.rows);
+      buffers = all_standing w.ground.memory w.buffers.records;
       holes = holes_of w.ground.spans;
       tail = 8 * w.ground.spans.tail;
       room = room_left w.buffers w.ground;
       reach = reach_of w.ground;
     } };
 
-    ghost invariant = { λ w. Keeps (live w.buffers.rows) w.ground };
+    ghost invariant = { λ w. Keeps w.buffers.records w.ground };
 }
 
 impl Window {
     ghost use Rattle.bd_buffers.specs.Buffer.{IsPlaced, at_pointer};
     ghost use Rattle.bd_buffers.specs.{Window.{IsLeastFree, IsInBudget, Refuses, IsWindow}, Holes.{IsHoles}};
     ghost use Rattle.bd_buffers.specs.Stands.{Stands, CanHold, HasBufferRoom, WindowTells, WindowMakes, Uses, UsesNothing};
-    ghost use Rattle.bd_buffers.specs.{Homes.{Forgets}, WindowsStand.{made_of_buffer, next_made}};
+    ghost use Rattle.bd_buffers.specs.{Rows.{live_places}, WindowsStand.{made_of_buffer}};
 
     /// An empty window of a size in bytes, a multiple of 8 of at most 4194304. Takes no memory.
     pub fn new(alloc: Global, size: u32) -> Result<Window, AllocError>
@@ -113,6 +112,7 @@ impl Window {
     }
 
     // The place of a new buffer for data and offsets of these sizes.
+    #[tactic(auto, using(crate::proofs::Places::data_too_large, crate::proofs::Places::offsets_too_large))]
     fn start_of_data(&self, one_way: bool, data_size: u64, offsets_size: u64) -> Result<u32, Cause>
         ensures computed { result ≡ start_for self.now.size self.now.buffers one_way (needed data_size offsets_size) }
         ensures fits { IfOk result (λ p. needed data_size offsets_size ≤ 4194304) }
@@ -184,6 +184,7 @@ impl Window {
     }
 
     /// Takes the newest buffer in, at a place that the window can take it at. Takes no memory.
+    #[tactic(auto, using(crate::proofs::Places::holds_inside, crate::proofs::Shares::at_sender, crate::proofs::Shares::from_within, crate::proofs::Kept::share_within, crate::proofs::Kept::is_one_way))]
     #[inline(always)]
     pub fn commit(&mut self, buffer: Lent<'_>)
         requires room { HasBufferRoom self.old buffer.start buffer.size }
@@ -202,6 +203,7 @@ impl Window {
     }
 
     /// The live buffer made there.
+    #[tactic(auto, using(crate::proofs::Standing::found_standing))]
     pub fn buffer(&self, made: u64) -> Option<Lent<'_>>
         ensures found { WindowTells (Stands self.now) result (λ size bs. buffer_in bs made) }
         ensures placed { IfSome result (λ b. IsPlaced 4194304 b) }
@@ -225,27 +227,13 @@ impl Window {
         }
     }
 
-    /// Forgets the homes of all live buffers, and no others.
-    pub(crate) fn forget_homes(&self, homes: &mut WordMap<u64>)
-        ensures { Forgets self.now.buffers homes.old homes.new }
+    /// The rows of the buffers, those of ended ones too.
+    #[tactic(auto, using(crate::proofs::Standing::made_standing))]
+    pub(crate) fn rows(&self) -> &[Record]
+        ensures places { live_places result.now ≡ map made_of_buffer self.now.buffers }
+        ensures order { AllPairs (λ a b. a.made < b.made) result.now }
     {
-        forget(homes, &self.buffers);
-    }
-
-    /// Appends the places at which the live buffers were made, oldest first.
-    pub(crate) fn list_made(&self, places: &mut Vec<u64>) -> Result<(), AllocError>
-        ensures listed { OnOk result (places.new.items ≡ places.old.items ++ map made_of_buffer self.now.buffers) }
-        // Memory was asked for: there is a live buffer.
-        ensures grown { OnErr result (1 ≤ length self.now.buffers) }
-    {
-        list_made(&self.buffers, places)
-    }
-
-    /// Where the first live buffer that was made at this place or behind it was made.
-    pub(crate) fn next_from(&self, from: u64) -> Option<u64>
-        ensures { result ≡ next_made self.now.buffers from }
-    {
-        next_from(&self.buffers, from)
+        self.buffers.as_slice()
     }
 
     // Gives memory back where no buffer is left and there is much of it: what a window costs is what its buffers take, not what they once
@@ -255,7 +243,7 @@ impl Window {
         ensures buffers { self.new.buffers ≡ self.old.buffers }
         ensures room { UsesNothing self.old self.new }
     {
-        if self.buffers.len() == 0 && self.ground.memory.len() > MOST_KEPT {
+        if self.buffers.as_slice().is_empty() && self.ground.memory.len() > MOST_KEPT {
             self.ground.clear();
         }
     }
@@ -265,13 +253,12 @@ impl Window {
         ensures stands { WindowMakes (Stands self.old) (Stands self.new) (filter (λ b. not (is_made_at made b))) }
         ensures room { UsesNothing self.old self.new }
     {
-        if let Some(i) = self.buffers.index_of(made) {
-            end_row(&mut self.buffers, &mut self.ground, i);
-            self.clear_empty();
-        }
+        end_made(&mut self.buffers, &mut self.ground, made);
+        self.clear_empty();
     }
 
     /// Marks the buffer made there as handed out.
+    #[tactic(auto, using(crate::proofs::Standing::handed_standing))]
     pub fn hand_out(&mut self, made: u64)
         ensures stands { WindowMakes (Stands self.old) (Stands self.new) (changed (is_made_at made) hand_out) }
         ensures room { UsesNothing self.old self.new }

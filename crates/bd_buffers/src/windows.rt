@@ -13,6 +13,7 @@ ghost use Rattle.bd_buffers.specs.WindowsStand.{StandsFor, StandsIn, Stands, win
 
 use crate::home::home_key;
 use crate::lent::Lent;
+use crate::listing::{list_made, next_from};
 use crate::owned::{
     OwnedWindow, close_among, forget_in, free_in, hand_out_in, is_last, owned_by, position_of,
 };
@@ -141,6 +142,7 @@ impl Windows {
     }
 
     /// Makes room for one more buffer of a size at a place in the window of a process. All stays as it was, also on an `Err`.
+    #[tactic(auto, using(crate::proofs::AllWindows::stay, crate::proofs::AllWindows::stay_seen, crate::proofs::Homes::homes_same))]
     #[inline(always)]
     pub fn reserve_buffer(&mut self, p: u64, start: u32, size: u32) -> Result<(), AllocError>
         ensures stands { Makes (StandsFor self.old) (StandsFor self.new) (λ s. s) }
@@ -198,6 +200,7 @@ impl Windows {
     }
 
     // The same, where no guess tells whose window it is in.
+    #[tactic(auto, using(bd_keys::proofs::Rising::find_none, crate::proofs::Homes::none_home))]
     #[inline(never)]
     fn at_home(&self, made: u64) -> Option<Lent<'_>>
         ensures found { Tells (StandsIn self.now) result (λ s. buffer_in s.buffers made) }
@@ -209,6 +212,7 @@ impl Windows {
     }
 
     /// The live buffer that a process knows by a pointer, handed out or not.
+    #[tactic(auto, using(crate::proofs::InSpace::at_pointer_in), unfolding(bd_space::specs::Freeing::buffer_at_pointer))]
     #[inline(always)]
     pub fn at_pointer(&self, p: u64, pointer: u64) -> Option<Lent<'_>>
         ensures found { (s : Space) (q : Process) → StandsIn self.now s → process_in s.processes p ≡ Some q
@@ -232,17 +236,18 @@ impl Windows {
     {
         match self.owned(p) {
             None => Ok(()),
-            Some(w) => w.window.list_made(places),
+            Some(w) => list_made(w.window.rows(), places),
         }
     }
 
     /// Where the first live buffer of a process that was made at this place or behind it was made.
+    #[tactic(auto, using(crate::proofs::AllWindows::held, crate::proofs::Standing::found_of))]
     pub fn next_from(&self, p: u64, from: u64) -> Option<u64>
         ensures { Tells (StandsIn self.now) result (λ s. next_made (buffers_of s.buffers p) from) }
     {
         match self.owned(p) {
             None => None,
-            Some(w) => w.window.next_from(from),
+            Some(w) => next_from(w.window.rows(), from),
         }
     }
 

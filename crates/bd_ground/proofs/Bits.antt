@@ -1,5 +1,5 @@
 -- What is free of a window where a span is taken or given back.
-use Rattle.std.proofs.Common.{◌≡◌, ℕ, ◌+◌, ◌<◌, ◌≤◌, Bool, true, false, refl, sym, ◌∙◌, inl, inr, ◌⊎◌, leb}
+use Rattle.std.proofs.Common.{arith, ◌≡◌, ℕ, ◌+◌, ◌<◌, ◌≤◌, Bool, true, false, refl, sym, ◌∙◌, inl, inr, ◌⊎◌}
 use Rattle.std.specs.Prelude.{◌&&◌, ◌||◌}
 use Rattle.std.proofs.lemmas.Bool.{cases_lt, le-leb, lt-leb, lt-ltb, le-ltb, false≢true}
 use Rattle.bd_ground.specs.Tiles.{is_in, without, with_span}
@@ -20,24 +20,19 @@ pub is_in_true : (p n u : ℕ) → IsIn p n u → is_in p n u ≡ true
 is_in_true p n u h = rw (le-leb p u h.0, lt-ltb u (p + n) h.1) refl
 
 and_false : (b : Bool) → (b && false) ≡ false
-and_false true = refl
-and_false false = refl
+and_false b = search arith
 
 and_true : (b : Bool) → (b && true) ≡ b
-and_true true = refl
-and_true false = refl
+and_true b = search arith
 
 or_true : (b : Bool) → (b || true) ≡ true
-or_true true = refl
-or_true false = refl
+or_true b = search arith
 
 or_false : (b : Bool) → (b || false) ≡ b
-or_false true = refl
-or_false false = refl
+or_false b = search arith
 
 pub is_in_false : (p n u : ℕ) → IsOut p n u → is_in p n u ≡ false
-is_in_false p n u (inl lt) = rw (lt-leb p u lt) refl
-is_in_false p n u (inr le) = rw (le-ltb u (p + n) le) (and_false (leb p u))
+is_in_false p n u h = search (arith, lt-leb, le-ltb)
 
 module _ (free : ℕ → Bool) (p n u : ℕ) where
   pub without_out : IsOut p n u → without p n free u ≡ free u

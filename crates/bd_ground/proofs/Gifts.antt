@@ -1,10 +1,8 @@
 -- What is given back is one with what is free before and behind it.
 use Rattle.std.proofs.Common.{◌≡◌, ℕ, ◌+◌, ◌-◌, ◌<◌, ◌≤◌, Bool, true, false, length, get_or, sym, ◌∙◌, subst, arith, inl, inr, ◌⊎◌}
-use Rattle.std.proofs.lemmas.Bool.{cases_lt, cases_Bool, cases_eq, cases_order}
-use Rattle.bd_ground.specs.declared.spans.Spans.{Spans}
-use Rattle.bd_ground.specs.Tiles.{hole_at, IsHole, IsCovered, Tiles, with_span}
-use Rattle.bd_ground.proofs.Bits.{clash, with_out, with_in, with_free, with_true}
-use Rattle.bd_ground.proofs.Tiling.{apart}
+use Rattle.std.proofs.lemmas.Bool.{cases_lt, cases_eq, cases_order}
+use Rattle.bd_ground.specs.{declared.spans.Spans.{Spans}, Tiles.{hole_at, IsHole, IsCovered, Tiles, with_span}}
+use Rattle.bd_ground.proofs.{Bits.{clash, with_out, with_in, with_free, with_true}, Tiling.{apart}}
 
 -- where the hole begins that ends at p; where none does, there
 pub record IsBegin (t : Spans) (p b : ℕ) : Type 0 where
@@ -29,79 +27,26 @@ module _ (free : ℕ → Bool) (t : Spans) (p n b : ℕ) (is : Tiles free t) (so
 
   -- one that ends where it begins is the one that was found
   ends_at : (i : ℕ) → 0 < hole_at t i → i + hole_at t i ≡ p → i ≡ b
-  ends_at i pos e =
-      let h = is.holes i pos in
-      let within = begin.within in
-      elim (cases_lt b p) [
-        | inl less ↦ (
-            let size = begin.hole less in
-            elim (cases_order i b) [
-              | inl same ↦ same
-              | inr (inl lt) ↦ absurd (let far = apart free t is i b pos (omega arith) lt in omega arith)
-              | inr (inr gt) ↦ absurd (let far = apart free t is b i (omega arith) pos gt in omega arith)
-            ])
-        | inr ge ↦ (
-            let last : i + hole_at t i - 1 ≡ p - 1 = omega arith in
-            let name = subst (λ k. get_or t.begins.items k 0 ≡ i) last h.named in
-            absurd (begin.none (omega arith) (omega arith) i name (omega arith) (omega arith)))
-      ]
+  ends_at i pos e = search arith
 
   -- what is free from where it begins to the span
   free_from : (u : ℕ) → b ≤ u → u < p → free u ≡ true
-  free_from u low high =
-      let size = begin.hole (omega arith) in
-      let h = is.holes b (omega arith) in
-      h.all_free u low (omega arith)
+  free_from u low high = search arith
 
   -- and what is before it isn't
   not_before : 0 < b → free (b - 1) ≡ false
-  not_before first =
-      let within = begin.within in
-      elim (cases_lt b p) [
-        | inl less ↦ (let size = begin.hole less in let h = is.holes b (omega arith) in h.starts first)
-        | inr ge ↦ elim (cases_Bool (free (b - 1))) [
-          | inr f ↦ f
-          | inl f ↦ (
-              let c = is.covered (b - 1) (omega arith) f in
-              let from = c.from in
-              let to = c.to in
-              let le = ends_by c.first (omega arith) (omega arith) in
-              let same = ends_at c.first (omega arith) (omega arith) in
-              absurd (omega arith))
-        ]
-      ]
+  not_before first = search arith
 
   -- a hole that isn't the one that was found ends before the span or begins behind it
   beside : (i : ℕ) → (i ≡ b → ⊥) → 0 < hole_at t i → (i + hole_at t i < b) ⊎ (p + n ≤ i)
-  beside i ne pos =
-      let within = begin.within in
-      elim (cases_lt i p) [
-        | inr ge ↦ elim (cases_lt i (p + n)) [ inl lt ↦ absurd (none_in i pos ge lt) | inr far ↦ inr far ]
-        | inl lt ↦ (
-            let le = ends_by i lt pos in
-            let away : i + hole_at t i ≡ p → ⊥ = λ e. ne (ends_at i pos e) in
-            elim (cases_lt b p) [
-              | inr same ↦ inl (elim (cases_eq (i + hole_at t i) p) [ inl e ↦ absurd (away e) | inr other ↦ omega arith ])
-              | inl less ↦ (
-                  let size = begin.hole less in
-                  elim (cases_order i b) [
-                    | inl same ↦ absurd (ne same)
-                    | inr (inl before) ↦ inl (apart free t is i b pos (omega arith) before)
-                    | inr (inr gt) ↦ absurd (let far = apart free t is b i (omega arith) pos gt in omega arith)
-                  ])
-            ])
-      ]
+  beside i ne pos = grind (arith, cases_lt, none_in, ends_by, ends_at, cases_eq, cases_order, apart)
 
   -- what comes of it at the tail
   module _ (s : Spans) (at_tail : p + n ≡ t.tail) (size : s.size ≡ t.size) (tail : s.tail ≡ b) (long : length s.holes ≡ length t.holes)
       (same_names : s.begins ≡ t.begins) (gone : hole_at s b ≡ 0) (others : (j : ℕ) → (j ≡ b → ⊥) → hole_at s j ≡ hole_at t j) where
     pub tiles_back : Tiles (with_span p n free) s
     tiles_back =
-        let within = begin.within in
-        let a = is.within in
-        let d = is.small in
         let e = is.long in
-        let g = is.named in
         record {
           within = omega arith;
           small = omega arith;
@@ -120,7 +65,6 @@ module _ (free : ℕ → Bool) (t : Spans) (p n b : ℕ) (is : Tiles free t) (so
               let same = others i ne in
               let was : 0 < hole_at t i = omega arith in
               let h = is.holes i was in
-              let ends = h.inside in
               let before : i + hole_at t i < b = elim (beside i ne was) [ inl x ↦ x | inr x ↦ absurd (omega arith) ] in
               record {
                 inside = omega arith;
@@ -147,55 +91,22 @@ module _ (free : ℕ → Bool) (t : Spans) (p n b : ℕ) (is : Tiles free t) (so
       (names : (j : ℕ) → (j ≡ p + n + hole_at t (p + n) - 1 → ⊥) → get_or s.begins.items j 0 ≡ get_or t.begins.items j 0) where
     -- the new hole ends where something is
     not_behind : free (p + n + hole_at t (p + n)) ≡ false
-    not_behind =
-        elim (cases_lt 0 (hole_at t (p + n))) [
-          | inl pos ↦ (let h = is.holes (p + n) pos in h.ends)
-          | inr none ↦ elim (cases_Bool (free (p + n + hole_at t (p + n)))) [
-            | inr f ↦ f
-            | inl f ↦ (
-                let here : p + n + hole_at t (p + n) ≡ p + n = omega arith in
-                let c = is.covered (p + n) before (subst (λ k. free k ≡ true) here f) in
-                let from = c.from in
-                let to = c.to in
-                let ne : c.first ≡ p + n → ⊥ = λ e. (let q = subst (λ k. p + n < k + hole_at t k) e to in omega arith) in
-                let h = is.holes c.first (omega arith) in
-                clash (free (p + n - 1)) (h.all_free (p + n - 1) (omega arith) (omega arith)) (taken (p + n - 1) (omega arith) (omega arith)))
-          ]
-        ]
+    not_behind = search arith
 
     new_end : p + n + hole_at t (p + n) < t.tail
-    new_end = elim (cases_lt 0 (hole_at t (p + n))) [ inl pos ↦ (let h = is.holes (p + n) pos in let i = h.inside in omega arith) | inr none ↦ omega arith ]
+    new_end = elim (cases_lt 0 (hole_at t (p + n))) [ inl pos ↦ (let h = is.holes (p + n) pos in omega arith) | inr none ↦ omega arith ]
 
     new_free : (u : ℕ) → b ≤ u → u < p + n + hole_at t (p + n) → with_span p n free u ≡ true
-    new_free u low high =
-        elim (cases_lt u p) [
-          | inl lt ↦ with_free free p n u (free_from u low lt)
-          | inr ge ↦ elim (cases_lt u (p + n)) [
-            | inl lt ↦ with_in free p n u (ge, lt)
-            | inr over ↦ with_free free p n u (let h = is.holes (p + n) (omega arith) in h.all_free u over high)
-          ]
-        ]
+    new_free u low high = search arith
 
     one : IsHole (with_span p n free) s b
-    one =
-        let within = begin.within in
-        let end : b + hole_at s b ≡ p + n + hole_at t (p + n) = omega arith in
-        let far = new_end in
-        record {
-          inside = omega arith;
-          named = (let last : b + hole_at s b - 1 ≡ p + n + hole_at t (p + n) - 1 = omega arith in rw last name);
-          all_free = λ u from to. new_free u from (omega arith);
-          ends = rw end (with_out free p n (p + n + hole_at t (p + n)) (inr (omega arith)) ∙ not_behind);
-          starts = λ first. with_out free p n (b - 1) (inl (omega arith)) ∙ not_before first;
-        }
+    one = grind (arith, new_end, new_free, with_out, not_behind, not_before)
 
     kept : (i : ℕ) → (i ≡ b → ⊥) → (i ≡ p + n → ⊥) → 0 < hole_at s i → IsHole (with_span p n free) s i
     kept i ne away pos =
-        let within = begin.within in
         let same = others i ne away in
         let was : 0 < hole_at t i = omega arith in
         let h = is.holes i was in
-        let ends = h.inside in
         let side = beside i ne was in
         let apart_names : i + hole_at t i - 1 ≡ p + n + hole_at t (p + n) - 1 → ⊥ = λ e. elim side [
           | inl x ↦ omega (arith, e, x)
@@ -214,7 +125,6 @@ module _ (free : ℕ → Bool) (t : Spans) (p n b : ℕ) (is : Tiles free t) (so
 
     covered_back : (u : ℕ) → u < s.tail → with_span p n free u ≡ true → IsCovered s u
     covered_back u lt f =
-        let within = begin.within in
         elim (with_true free p n u f) [
           | inr span ↦ record { first = b; from = omega (arith, span.0); to = omega (arith, span.1) }
           | inl was ↦ (
@@ -241,10 +151,6 @@ module _ (free : ℕ → Bool) (t : Spans) (p n b : ℕ) (is : Tiles free t) (so
 
     pub tiles_given : Tiles (with_span p n free) s
     tiles_given =
-        let a = is.within in
-        let d = is.small in
-        let e = is.long in
-        let g = is.named in
         record {
           within = omega arith;
           small = omega arith;

@@ -1,15 +1,11 @@
 -- The holes, read off in the order of units.
-use Rattle.std.proofs.Common.{◌≡◌, ℕ, zero, suc, ◌+◌, ◌<◌, ◌≤◌, Bool, true, List, [], ◌∷◌, length, get_or, refl, sym, ap, ◌∙◌, arith, inl, inr}
-use Rattle.std.proofs.lemmas.Bool.{cases_lt, cases_eq, eq-eqb, ne_eqb}
-use Rattle.std.proofs.lemmas.List.{get_or_past}
-use Rattle.bd_ground.specs.declared.spans.Spans.{Spans}
-use Rattle.bd_ground.specs.Tiles.{hole_at, Tiles}
-use Rattle.bd_ground.specs.Holes.{holes_in, Spaced, Covered, AreHoles}
+use Rattle.std.proofs.Common.{◌≡◌, ℕ, zero, suc, ◌+◌, ◌<◌, ◌≤◌, Bool, true, List, [], ◌∷◌, length, get_or, sym, ap, ◌∙◌, arith, inl, inr}
+use Rattle.std.proofs.{lemmas.Bool.{cases_lt, cases_eq, eq-eqb, ne_eqb}, lemmas.List.{get_or_past}}
+use Rattle.bd_ground.specs.{declared.spans.Spans.{Spans}, Tiles.{hole_at, Tiles}, Holes.{holes_in, Spaced, Covered, AreHoles}}
 use Rattle.bd_ground.proofs.Tiling.{apart}
 
 positive : (n : ℕ) → (n ≡ 0 → ⊥) → 0 < n
-positive zero ne = absurd (ne refl)
-positive (suc n) ne = omega arith
+positive n ne = search arith
 
 module _ (free : ℕ → Bool) (t : Spans) (is : Tiles free t) where
   -- these are the numbers from unit i on
@@ -31,7 +27,6 @@ module _ (free : ℕ → Bool) (t : Spans) (is : Tiles free t) where
         | inr some ↦ (
             let pos : 0 < hole_at t i = omega (arith, positive n some) in
             let h = is.holes i pos in
-            let inside = h.inside in
             rw (ne_eqb n 0 some) (
               from i (omega arith) pos,
               omega arith,
@@ -53,11 +48,7 @@ module _ (free : ℕ → Bool) (t : Spans) (is : Tiles free t) where
 
   tail_in : (ns : List ℕ) (i u : ℕ) → t.tail ≤ u → u < t.size → Covered t.size t.tail (holes_in ns i) u
   tail_in [] i u from to = (from, to)
-  tail_in (n ∷ ns) i u from to =
-      elim (cases_eq n 0) [
-        | inl none ↦ rw (eq-eqb n 0 none) (tail_in ns (i + 1) u from to)
-        | inr some ↦ rw (ne_eqb n 0 some) (inr (tail_in ns (i + 1) u from to))
-      ]
+  tail_in (n ∷ ns) i u from to = grind (arith, cases_eq, eq-eqb, ne_eqb, tail_in ns (i + 1) u from to)
 
   hole_in : (ns : List ℕ) (i k u : ℕ) → Are ns i → i ≤ k → k < i + length ns → k ≤ u → u < k + hole_at t k → Covered t.size t.tail (holes_in ns i) u
   hole_in [] i k u are low high from to = absurd (omega arith)
@@ -75,19 +66,4 @@ module _ (free : ℕ → Bool) (t : Spans) (is : Tiles free t) where
       ]
 
   pub are_holes : AreHoles free t.size t.tail (holes_in t.holes 0)
-  are_holes =
-      let are : Are t.holes 0 = λ j. ap (hole_at t) (omega arith) in
-      record {
-        spaced = spaced_in t.holes 0 0 are (omega arith) (λ k ge pos. omega arith);
-        within = is.within;
-        free_only = λ u c. only_in t.holes 0 u are c;
-        all_free = λ u lt f. elim (cases_lt u t.tail) [
-          | inr far ↦ tail_in t.holes 0 u far lt
-          | inl near ↦ (
-              let c = is.covered u near f in
-              let from = c.from in
-              let to = c.to in
-              let there : c.first < length t.holes = elim (cases_lt c.first (length t.holes)) [ inl x ↦ x | inr past ↦ absurd (let none = get_or_past t.holes c.first 0 past in omega arith) ] in
-              hole_in t.holes 0 c.first u are (omega arith) (omega arith) from to)
-        ];
-      }
+  are_holes = grind (arith, spaced_in, only_in, cases_lt, tail_in, get_or_past, hole_in)

@@ -1,9 +1,7 @@
 -- What parts are bounded by, where a number is written or more come.
-use Rattle.std.proofs.Common.{◌≡◌, ℕ, ◌+◌, ◌-◌, ◌*◌, ◌/◌, ◌<◌, ◌≤◌, List, length, get_or, set, ap, ◌∙◌, subst, arith, inl, inr, All}
+use Rattle.std.proofs.Common.{◌≡◌, ℕ, ◌+◌, ◌-◌, ◌*◌, ◌/◌, ◌<◌, ◌≤◌, List, length, get_or, set, ap, ◌∙◌, subst, arith, All}
 use Rattle.std.specs.List.{between}
-use Rattle.std.proofs.lemmas.Bool.{cases_lt, cases_eq}
-use Rattle.std.proofs.lemmas.List.{get_or-set_same, get_or-set_other, length-set}
-use Rattle.std.proofs.lemmas.List.Edits.{length-between, get_or-between}
+use Rattle.std.proofs.{lemmas.List.{get_or-set_same, get_or-set_other, length-set}, lemmas.List.Edits.{length-between, get_or-between}}
 use Rattle.bd_ground.specs.Peaks.{AreBelow, ArePeaks}
 
 -- what holds of each of a part holds at its indices
@@ -15,15 +13,7 @@ part_has P xs i j k d all end from to =
 -- where a number is written and its part's is made anew
 pub below_set : (numbers parts : List ℕ) (i n g : ℕ) → AreBelow numbers parts → i / 64 < length parts
     → ((j : ℕ) → j / 64 ≡ i / 64 → get_or (set numbers i n) j 0 ≤ g) → AreBelow (set numbers i n) (set parts (i / 64) g)
-below_set numbers parts i n g below lt made j =
-    elim (cases_eq (j / 64) (i / 64)) [
-      | inl here ↦ (
-          let at : get_or (set parts (i / 64) g) (j / 64) 0 ≡ g = rw here (get_or-set_same parts (i / 64) g 0 lt) in
-          rw at (made j here))
-      | inr apart ↦ (
-          let other : j ≡ i → ⊥ = λ e. apart (ap (λ (k : ℕ). k / 64) e) in
-          rw (get_or-set_other numbers i j n 0 other, get_or-set_other parts (i / 64) (j / 64) g 0 apart) (below j))
-    ]
+below_set numbers parts i n g below lt made j = search (arith, get_or-set_same, get_or-set_other)
 
 pub below_same : (xs ys ps qs : List ℕ) → ((j : ℕ) → get_or ys j 0 ≡ get_or xs j 0) → ((j : ℕ) → get_or qs j 0 ≡ get_or ps j 0) → AreBelow xs ps → AreBelow ys qs
 below_same xs ys ps qs s t below j = rw (s j, t (j / 64)) (below j)
@@ -32,17 +22,7 @@ pub peaks_set : (numbers parts wholes : List ℕ) (i n g h : ℕ) → ArePeaks n
     → ((j : ℕ) → j / 64 ≡ i / 64 → get_or (set numbers i n) j 0 ≤ g)
     → ((j : ℕ) → j / 64 ≡ i / 64 / 64 → get_or (set parts (i / 64) g) j 0 ≤ h)
     → ArePeaks (set numbers i n) (set parts (i / 64) g) (set wholes (i / 64 / 64) h)
-peaks_set numbers parts wholes i n g h p lt made more =
-    let long = p.long in
-    let longer = p.longer in
-    let a : i / 64 < length parts = omega arith in
-    let b : i / 64 / 64 < length wholes = omega arith in
-    record {
-      lower = below_set numbers parts i n g p.lower a made;
-      upper = below_set parts wholes (i / 64) g h p.upper b more;
-      long = rw (length-set, length-set) p.long;
-      longer = rw (length-set, length-set) p.longer;
-    }
+peaks_set numbers parts wholes i n g h p lt made more = grind (arith, below_set, length-set)
 
 -- behind which whole, in it behind which part, and in it behind which number the first is
 pub below_first : (numbers parts wholes : List ℕ) (n w p k : ℕ) → ArePeaks numbers parts wholes
@@ -50,12 +30,4 @@ pub below_first : (numbers parts wholes : List ℕ) (n w p k : ℕ) → ArePeaks
     → ((j : ℕ) → w * 64 ≤ j → j < p → get_or parts j 0 < n)
     → ((j : ℕ) → p * 64 ≤ j → j < k → get_or numbers j 0 < n)
     → (j : ℕ) → j < k → get_or numbers j 0 < n
-below_first numbers parts wholes n w p k is whole part number j lt =
-    let in_part : (i : ℕ) → i < p → get_or parts i 0 < n = λ i before. elim (cases_lt i (w * 64)) [
-      | inr ge ↦ part i ge before
-      | inl less ↦ (let a = is.upper i in let b = whole (i / 64) (omega arith) (omega arith) in omega arith)
-    ] in
-    elim (cases_lt j (p * 64)) [
-      | inr ge ↦ number j ge lt
-      | inl less ↦ (let a = is.lower j in let b = in_part (j / 64) (omega arith) in omega arith)
-    ]
+below_first numbers parts wholes n w p k is whole part number j lt = search arith

@@ -1,9 +1,7 @@
 -- What stands between two places.
-use Rattle.std.proofs.Common.{◌≡◌, ℕ, ◌+◌, ◌-◌, ◌<◌, ◌≤◌, List, length, get_or, sym, ◌∙◌, arith, inl, inr}
+use Rattle.std.proofs.Common.{◌≡◌, ℕ, ◌+◌, ◌<◌, ◌≤◌, List, length, get_or, sym, ◌∙◌, arith}
 use Rattle.std.specs.List.{between}
-use Rattle.std.proofs.lemmas.Bool.{cases_lt}
-use Rattle.std.proofs.lemmas.List.{same_lists, get_or_default}
-use Rattle.std.proofs.lemmas.List.Edits.{length-between, get_or-between}
+use Rattle.std.proofs.{lemmas.List.{same_lists, get_or_default}, lemmas.List.Edits.{length-between, get_or-between}}
 
 -- where bytes are the same at each place between, so are they together
 pub same_between : (xs ys : List ℕ) (i j : ℕ) → j ≤ length xs → j ≤ length ys → ((k : ℕ) → i ≤ k → k < j → get_or xs k 0 ≡ get_or ys k 0) → between i j xs ≡ between i j ys

@@ -64,6 +64,7 @@ impl Memory {
     }
 
     /// Has so many bytes at least from then on. What is written stays, also on an `Err`.
+    #[tactic(auto, using(crate::proofs::Pieces::same_between))]
     pub fn reserve(&mut self, count: usize) -> Result<(), AllocError>
         ensures kept { (i j : ℕ) → j ≤ length self.old → between i j self.new ≡ between i j self.old }
         ensures longer { length self.old ≤ length self.new }
@@ -75,6 +76,7 @@ impl Memory {
     }
 
     /// Writes these bytes to a place. All others stay.
+    #[tactic(auto, using(crate::proofs::Pieces::same_between, crate::proofs::Pieces::between_is))]
     pub fn write(&mut self, at: usize, bytes: &[u8])
         requires { at + length bytes.now ≤ length self.old }
         ensures len { length self.new ≡ length self.old }

@@ -109,6 +109,7 @@ impl Peaks {
     }
 
     /// Has so many at least from then on: new ones are 0. No other changes, also on an `Err`.
+    #[tactic(auto, using(crate::proofs::Parts::below_same))]
     pub fn reserve(&mut self, count: usize) -> Result<(), AllocError>
         ensures same { (j : ℕ) → slice_index self.new j ≡ slice_index self.old j }
         ensures longer { length self.old ≤ length self.new }

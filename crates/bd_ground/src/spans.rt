@@ -96,6 +96,7 @@ impl Spans {
     }
 
     /// Takes the first n units of a hole, or of the tail.
+    #[tactic(auto, using(crate::proofs::Cuts::tiles_cut, crate::proofs::Cuts::tiles_grown))]
     pub fn take(&mut self, place: u32, n: u32)
         requires filled { 0 < n }
         requires small { place + n ≤ 524288 }

@@ -1,12 +1,8 @@
-use Rattle.std.proofs.Common.{◌≡◌, ℕ, ◌≤◌, find, take, nat_le, None}
-use Rattle.std.specs.Prelude.{IfSome}
-use Rattle.bd_buffers.specs.declared.record.Record.{Record}
-use Rattle.bd_buffers.specs.Rows.{live, in_row}
+use Rattle.std.proofs.Common.{◌≡◌, drop}
+use Rattle.std.specs.Prelude.{find, nat_le}
+use Rattle.bd_buffers.specs.{declared.record.Record.{Record}, Rows.{lives, live}}
 use Rattle.bd_buffers.proofs.listing.next_from.Given as goal
 
--- none in rows before i was made there or behind, and all in rows from i on were
+-- the first from the place on is the first in the rows from i on
 abbrev pub invariant-loop-i : goal.invariant-loop-i
-invariant-loop-i l = record {
-  none : find (λ (b : Record). nat_le l.from b.made) (live (take l.i l.buffers.rows)) ≡ None;
-  behind : (k : ℕ) → l.i ≤ k → IfSome (in_row l.buffers.rows k) (λ b. l.from ≤ b.made);
-}
+invariant-loop-i l = find (λ (b : Record). nat_le l.from b.made) (live l.rows) ≡ find lives (drop l.i l.rows)

@@ -1,8 +1,7 @@
 use Rattle.std.proofs.Common.{List, refl}
 use Rattle.std.specs.Prelude.{not, filter}
-use Rattle.bd_space.specs.declared.space.Buffer.{Buffer}
-use Rattle.bd_space.specs.Freeing.{is_made_at}
-use Rattle.bd_buffers.proofs.AllWindows.{one_made, one_missed}
+use Rattle.bd_space.specs.{declared.space.Buffer.{Buffer}, Freeing.{is_made_at}}
+use Rattle.bd_buffers.proofs.AllWindows.{one_made}
 use Rattle.bd_buffers.proofs.owned.free_in.Goals as goal
 
 pub returns-in-Some : goal.returns-in-Some
@@ -10,8 +9,3 @@ returns-in-Some c =
     let f : List Buffer → List Buffer = filter (λ (b : Buffer). not (is_made_at c.args.made b)) in
     let w = c.index_mut.result.now.window in
     one_made c.args.windows.now.items c.args.p c.in-Some.at _ c.free.new.self f c.requires.order (rw c.deref.ensures.value at c.in-Some.ensures) c.index_mut.ensures.value (c.free.ensures.stands w.size w.buffers (record { size_is = refl; buffers_are = refl }))
-
-pub returns-in_default : goal.returns-in_default
-returns-in_default c =
-    let f : List Buffer → List Buffer = filter (λ (b : Buffer). not (is_made_at c.args.made b)) in
-    one_missed c.args.windows.now.items c.args.p f (rw (c.deref.ensures.value, c.in_default.is) at c.position_of.ensures)

@@ -1,11 +1,10 @@
 use Rattle.std.proofs.Common.{ap, sym, ◌∙◌, arith}
 use Rattle.bd_buffers.specs.Rows.{ends_empty}
-use Rattle.bd_buffers.proofs.Live.{popped_trimmed}
+use Rattle.bd_buffers.proofs.Live.{popped}
 use Rattle.bd_buffers.proofs.rows.trim.Goals as goal
 
 pub loop-rows-preserved : goal.loop-rows-preserved
-loop-rows-preserved c = record {
-  trimmed = popped_trimmed c.args.rows.now.items c.loop-rows.rows.items c.pop.new.self.items c.pop.result c.loop-rows.invariant.trimmed (sym (c.is_end_empty.ensures ∙ ap ends_empty c.deref.ensures.value) ∙ c.loop-rows-test.true) c.pop.ensures.items;
-  len = omega (arith, c.loop-rows.invariant.len);
-  capacity = omega (arith, c.loop-rows.invariant.capacity);
-}
+loop-rows-preserved c =
+    let is = c.loop-rows.invariant in
+    let left = popped c.loop-rows.rows.items c.pop.new.self.items c.pop.result is.in_order (sym (c.is_end_empty.ensures ∙ ap ends_empty c.deref.ensures.value) ∙ c.loop-rows-test.true) c.pop.ensures.items in
+    record { same = left.0 ∙ is.same; in_order = left.1; len = omega (arith, is.len); capacity = omega (arith, is.capacity) }

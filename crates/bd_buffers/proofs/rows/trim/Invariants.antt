@@ -1,11 +1,13 @@
 use Rattle.std.proofs.Common.{◌≡◌, ◌≤◌, vec_len}
 use Rattle.std.specs.Prelude.{vec_capacity}
-use Rattle.bd_buffers.specs.Rows.{IsTrimmed}
+use Rattle.bd_buffers.specs.Rows.{live}
+use Rattle.bd_buffers.proofs.Live.{InOrder}
 use Rattle.bd_buffers.proofs.rows.trim.Given as goal
 
 abbrev pub invariant-loop-rows : goal.invariant-loop-rows
 invariant-loop-rows l = record {
-  trimmed : IsTrimmed l.fn.rows.items l.rows.items;
+  same : live l.rows.items ≡ live l.fn.rows.items;
+  in_order : InOrder l.rows.items;
   len : vec_len l.rows ≤ vec_len l.fn.rows;
   capacity : vec_capacity l.rows ≡ vec_capacity l.fn.rows;
 }

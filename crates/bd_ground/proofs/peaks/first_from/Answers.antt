@@ -9,7 +9,6 @@ returns-clause-below c = λ j low lt.
     let le : from ≤ length bounds = omega (arith, c.min-from.ensures) in
     let before : from ≤ j = omega (arith, c.min-from.ensures, low) in
     let len = length-between bounds from (length bounds) (omega arith) in
-    let within = c.first_above.ensures.within in
     let back : from + (j - from) ≡ j = omega arith in
-    let at = get_or-between bounds from (length bounds) (j - from) 0 (omega (arith, len, within, lt)) in
+    let at = get_or-between bounds from (length bounds) (j - from) 0 (omega (arith, len, lt)) in
     rw (at, back) at (c.first_above.ensures.below (j - from) (omega (arith, before, lt)))

@@ -4,11 +4,10 @@ use Rattle.bd_buffers.proofs.ground.Ground.clear.Goals as goal
 
 pub returns-clause-kept : goal.returns-clause-kept
 returns-clause-kept c = λ is.
-    let whole = is.notes.whole in
     record {
       notes = record {
         window = is.notes.window;
-        whole = omega (arith, whole, c.clear.ensures.size);
+        whole = omega (arith, c.clear.ensures.size);
         tiles = c.clear.ensures.tiles (is_free_unit []) (is_free_unit []) is.notes.tiles (λ u. refl);
         starts = λ k d lt. absurd (omega arith);
         total = is.notes.total;

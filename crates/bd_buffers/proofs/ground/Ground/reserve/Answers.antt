@@ -1,6 +1,5 @@
 use Rattle.std.proofs.Common.{refl, arith}
-use Rattle.bd_buffers.proofs.Noted.{keeps_memory}
-use Rattle.bd_buffers.proofs.Standing.{all_stay}
+use Rattle.bd_buffers.proofs.{Noted.{keeps_memory}, Standing.{all_stay}}
 use Rattle.bd_buffers.proofs.ground.Ground.reserve.Goals as goal
 
 pub returns-clause-kept : goal.returns-clause-kept

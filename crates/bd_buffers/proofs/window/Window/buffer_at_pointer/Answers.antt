@@ -1,18 +1,9 @@
 use Rattle.std.proofs.Common.{◌-◌, ◌/◌, ◌≡◌, ◌∙◌, ℕ, List, ap, sym, find, refl, cond, eq-eqb, ne_eqb, Some, None}
 use Rattle.std.specs.Prelude.{Option, slice_index}
-use Rattle.bd_space.specs.declared.space.Buffer.{Buffer}
-use Rattle.bd_space.specs.Freeing.{pointer}
-use Rattle.bd_space.specs.Returns.{buffer_in}
-use Rattle.bd_buffers.specs.declared.window.Window.{Window}
-use Rattle.bd_buffers.specs.declared.record.Record.{Record}
-use Rattle.bd_buffers.specs.declared.ground.Ground.{Ground}
-use Rattle.bd_buffers.specs.Window.{Keeps}
-use Rattle.bd_buffers.specs.Buffer.{at_pointer}
-use Rattle.bd_buffers.specs.Record.{all_standing}
-use Rattle.bd_buffers.specs.Rows.{live}
-use Rattle.bd_buffers.specs.Stands.{Stands, WindowTells}
+use Rattle.bd_space.specs.{declared.space.Buffer.{Buffer}, Freeing.{pointer}, Returns.{buffer_in}}
+use Rattle.bd_buffers.specs.{declared.window.Window.{Window}, declared.record.Record.{Record}, declared.ground.Ground.{Ground}, Window.{Keeps}, Buffer.{at_pointer}}
+use Rattle.bd_buffers.specs.{Record.{all_standing}, Stands.{Stands, WindowTells}, Rows.{kept}}
 use Rattle.bd_buffers.proofs.Listed.{by_start}
-use Rattle.bd_buffers.specs.Rows.{kept}
 use Rattle.bd_buffers.proofs.window.Window.buffer_at_pointer.Goals as goal
 
 -- what the buffer made where it is noted tells of the one with the pointer
@@ -24,16 +15,16 @@ at_start now rs g n p o keeps seen noted found size bs is =
     by_start g.size p all g.starts.items o keeps.notes.window keeps.notes.starts here ∙ ap (find (at_pointer p)) (seen ∙ is.buffers_are)
 
 pub returns-in_err-b-clause-found : goal.returns-in_err-b-clause-found
-returns-in_err-b-clause-found c = λ size bs is. rw c.from_residual.ensures (at_start c.args.self.now (live c.self.inside.buffers.rows) c.self.inside.ground c.noted_at.result c.args.pointer None c.self.invariant (ap (λ (v : Window). v.buffers) c.self.view_is) c.noted_at.ensures c.in_err-b.ensures.found size bs is)
+returns-in_err-b-clause-found c = λ size bs is. rw c.from_residual.ensures (at_start c.args.self.now c.self.inside.buffers.records c.self.inside.ground c.noted_at.result c.args.pointer None c.self.invariant (ap (λ (v : Window). v.buffers) c.self.view_is) c.noted_at.ensures c.in_err-b.ensures.found size bs is)
 
 pub returns-then-pointer_of-pointer-clause-found : goal.returns-then-pointer_of-pointer-clause-found
 returns-then-pointer_of-pointer-clause-found c = λ size bs is.
     let b = c.in_ok-b.b in
     let here = eq-eqb (pointer b) c.args.pointer (sym c.pointer_of.ensures ∙ c.if-pointer_of-pointer.true) in
-    sym (ap (λ t. cond t (Some b) None) here) ∙ at_start c.args.self.now (live c.self.inside.buffers.rows) c.self.inside.ground c.noted_at.result c.args.pointer (Some b) c.self.invariant (ap (λ (v : Window). v.buffers) c.self.view_is) c.noted_at.ensures c.in_ok-b.ensures.found size bs is
+    sym (ap (λ t. cond t (Some b) None) here) ∙ at_start c.args.self.now c.self.inside.buffers.records c.self.inside.ground c.noted_at.result c.args.pointer (Some b) c.self.invariant (ap (λ (v : Window). v.buffers) c.self.view_is) c.noted_at.ensures c.in_ok-b.ensures.found size bs is
 
 pub returns-else-pointer_of-pointer-clause-found : goal.returns-else-pointer_of-pointer-clause-found
 returns-else-pointer_of-pointer-clause-found c = λ size bs is.
     let b = c.in_ok-b.b in
     let other = ne_eqb (pointer b) c.args.pointer (λ e. c.if-pointer_of-pointer.false (c.pointer_of.ensures ∙ e)) in
-    sym (ap (λ t. cond t (Some b) None) other) ∙ at_start c.args.self.now (live c.self.inside.buffers.rows) c.self.inside.ground c.noted_at.result c.args.pointer (Some b) c.self.invariant (ap (λ (v : Window). v.buffers) c.self.view_is) c.noted_at.ensures c.in_ok-b.ensures.found size bs is
+    sym (ap (λ t. cond t (Some b) None) other) ∙ at_start c.args.self.now c.self.inside.buffers.records c.self.inside.ground c.noted_at.result c.args.pointer (Some b) c.self.invariant (ap (λ (v : Window). v.buffers) c.self.view_is) c.noted_at.ensures c.in_ok-b.ensures.found size bs is

@@ -1,9 +1,5 @@
 use Rattle.std.proofs.Common.{subst}
-use Rattle.bd_buffers.specs.declared.window.Window.{Window}
-use Rattle.bd_buffers.specs.Holes.{IsHoles}
-use Rattle.bd_buffers.specs.Record.{all_standing}
-use Rattle.bd_buffers.specs.Window.{is_free_unit}
-use Rattle.bd_buffers.specs.Rows.{live}
+use Rattle.bd_buffers.specs.{declared.window.Window.{Window}, Holes.{IsHoles}, Record.{all_standing}, Window.{is_free_unit}}
 use Rattle.bd_buffers.proofs.Units.{holes_are}
 use Rattle.bd_buffers.proofs.window.Window.check.Goals as goal
 
@@ -11,7 +7,7 @@ pub returns-clause-holes : goal.returns-clause-holes
 returns-clause-holes c = λ size bs is.
     let w = c.self.inside in
     let g = w.ground in
-    let live_ones = all_standing g.memory (live w.buffers.rows) in
+    let live_ones = all_standing g.memory w.buffers.records in
     let notes = c.self.invariant.notes in
     let P : Window → Type 0 = λ v. IsHoles v.size v.buffers v.tail v.holes in
     let own = holes_are g.size g.spans.size g.spans.tail notes.whole live_ones _ notes.window.placed (c.check.ensures (is_free_unit live_ones) notes.tiles) in

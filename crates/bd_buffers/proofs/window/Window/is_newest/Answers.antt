@@ -1,9 +1,7 @@
 use Rattle.std.proofs.Common.{◌<◌, ap, sym, subst, List, All}
 use Rattle.std.proofs.lemmas.List.Elements.{All-map}
 use Rattle.bd_space.specs.declared.space.Buffer.{Buffer}
-use Rattle.bd_buffers.specs.declared.window.Window.{Window}
-use Rattle.bd_buffers.specs.Record.{standing}
-use Rattle.bd_buffers.specs.Rows.{live}
+use Rattle.bd_buffers.specs.{declared.window.Window.{Window}, Record.{standing}}
 use Rattle.bd_buffers.proofs.Standing.{all_of}
 use Rattle.bd_buffers.proofs.window.Window.is_newest.Goals as goal
 
@@ -13,6 +11,6 @@ returns c =
     let m = w.ground.memory in
     let P : List Buffer → Type 0 = λ xs. All (λ b. b.made < c.args.made) xs in
     let same = ap (λ (v : Window). v.buffers) c.self.view_is in (
-      λ t. subst P same (All-map (λ b. b.made < c.args.made) (standing m) (live w.buffers.rows) (c.is_newest.ensures.0 t)),
-      λ all. c.is_newest.ensures.1 (all_of (standing m) (λ b. b.made < c.args.made) (live w.buffers.rows) (subst P (sym same) all)),
+      λ t. subst P same (All-map (λ b. b.made < c.args.made) (standing m) w.buffers.records (c.is_newest.ensures.0 t)),
+      λ all. c.is_newest.ensures.1 (all_of (standing m) (λ b. b.made < c.args.made) w.buffers.records (subst P (sym same) all)),
     )

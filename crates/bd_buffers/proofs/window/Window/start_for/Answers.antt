@@ -1,10 +1,8 @@
-use Rattle.std.proofs.Common.{◌≡◌, ℕ, Bool, List, Ok, Err, sym, ap, ◌∙◌}
+use Rattle.std.proofs.Common.{arith, ◌≡◌, ℕ, Bool, List, Ok, Err, sym, ap, ◌∙◌}
 use Rattle.std.specs.Prelude.{Result, IfOk}
 use Rattle.bd_uapi.specs.declared.fault.Cause.{Cause}
-use Rattle.bd_space.specs.declared.space.Buffer.{Buffer}
-use Rattle.bd_space.specs.Windows.{start_for}
-use Rattle.bd_buffers.specs.Stands.{Stands, CanHold}
-use Rattle.bd_buffers.specs.declared.window.Window.{Window}
+use Rattle.bd_space.specs.{declared.space.Buffer.{Buffer}, Windows.{start_for}}
+use Rattle.bd_buffers.specs.{Stands.{Stands, CanHold}, declared.window.Window.{Window}}
 use Rattle.bd_buffers.proofs.Places.{least_of, budget_of, cause_of}
 use Rattle.bd_buffers.proofs.window.Window.start_for.Goals as goal
 
@@ -29,5 +27,4 @@ pub returns-clause-budget : goal.returns-clause-budget
 returns-clause-budget c = λ size bs is. budget_of size bs c.args.one_way _ _ (for_all c.args.self.now size bs _ _ _ c.start_of_data.ensures.computed is)
 
 pub returns-clause-cause : goal.returns-clause-cause
-returns-clause-cause c = λ size bs is.
-    cause_of size bs c.args.one_way c.args.data_size c.args.offsets_size _ (for_all c.args.self.now size bs _ _ _ c.start_of_data.ensures.computed is)
+returns-clause-cause c = λ size bs is. grind (arith, cause_of, for_all)

@@ -1,18 +1,11 @@
 use Rattle.std.proofs.Common.{ℕ, ◌<◌, List, [], ◌∷◌, ◌++◌, All, find, map, refl, sym, ap, ◌∙◌, subst, cond, Some, arith}
 use Rattle.std.proofs.lemmas.Bool.{false≢true}
-use Rattle.bd_keys.specs.Keys.{same_word}
-use Rattle.bd_keys.specs.Look.{look, word_room}
-use Rattle.bd_space.specs.declared.space.Buffer.{Buffer}
-use Rattle.bd_space.specs.Words.{changed}
-use Rattle.bd_space.specs.Delivery.{add_buffer}
+use Rattle.bd_keys.specs.{Keys.{same_word}, Look.{look}}
+use Rattle.bd_space.specs.{declared.space.Buffer.{Buffer}, Words.{changed}, Delivery.{add_buffer}}
 use Rattle.bd_keys.proofs.Rising.{find_none}
-use Rattle.bd_buffers.specs.Stands.{CanHold}
-use Rattle.bd_buffers.specs.declared.owned.OwnedWindow.{OwnedWindow}
-use Rattle.bd_buffers.specs.declared.windows.Windows.{Windows}
-use Rattle.bd_buffers.specs.WindowsStand.{is_owned_by, is_of, seen, with_buffers, RoomIn, HasBufferRoom, CanAdd}
-use Rattle.bd_buffers.specs.Homes.{home_key}
-use Rattle.bd_buffers.proofs.Homes.{homes_noted}
-use Rattle.bd_buffers.proofs.AllWindows.{is_at, can_hold_at, can_hold_nowhere, older, one_made, buffer_added}
+use Rattle.bd_buffers.specs.{Stands.{CanHold}, declared.owned.OwnedWindow.{OwnedWindow}, declared.windows.Windows.{Windows}}
+use Rattle.bd_buffers.specs.{WindowsStand.{is_owned_by, is_of, seen, with_buffers, RoomIn, HasBufferRoom, CanAdd}, Homes.{home_key}}
+use Rattle.bd_buffers.proofs.{Homes.{homes_noted}, AllWindows.{is_at, can_hold_at, can_hold_nowhere, older, one_made, buffer_added}}
 use Rattle.bd_buffers.proofs.windows.Windows.add.Goals as goal
 
 pub commit-requires-clause-room : goal.commit-requires-clause-room
@@ -36,11 +29,7 @@ commit-requires-clause-newest c = subst (λ n. All (λ (b : Buffer). b.made < n)
 
 pub insert-requires : goal.insert-requires
 unfolding HasBufferRoom
-insert-requires c =
-    let t = c.args.self.now in
-    let room = c.requires.room.1 in
-    let same = ap (λ (v : Windows). word_room v.homes) c.self.view_is in
-    omega (arith, room, same)
+insert-requires c = grind arith
 
 pub returns-then-is_newest : goal.returns-then-is_newest
 unfolding add_buffer

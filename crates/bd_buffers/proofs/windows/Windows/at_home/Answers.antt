@@ -1,20 +1,8 @@
 use Rattle.std.proofs.Common.{◌≡◌, ◌+◌, ◌∙◌, Some, None, refl, ap, sym}
 use Rattle.bd_keys.specs.Look.{look}
-use Rattle.bd_space.specs.declared.space.Buffer.{Buffer}
-use Rattle.bd_keys.proofs.Rising.{find_none}
-use Rattle.bd_buffers.specs.declared.windows.Windows.{Windows}
-use Rattle.bd_buffers.specs.Homes.{home_key}
-use Rattle.bd_buffers.proofs.Homes.{none_home}
+use Rattle.bd_buffers.specs.{declared.windows.Windows.{Windows}, Homes.{home_key}}
 use Rattle.bd_buffers.proofs.AllWindows.{looked_up}
 use Rattle.bd_buffers.proofs.windows.Windows.at_home.Goals as goal
-
-pub returns-in_err-p-clause-found : goal.returns-in_err-p-clause-found
-returns-in_err-p-clause-found c = λ s stands.
-    let t = c.args.self.now in
-    let made = c.args.made in
-    let none : look t.homes (home_key made) ≡ None =
-    sym (c.in_err-p.ensures ∙ ap (look c.self.inside.homes) c.home_key.ensures ∙ ap (λ (v : Windows). look v.homes (home_key made)) c.self.view_is) in
-    rw c.from_residual.ensures (sym (find_none (λ (b : Buffer). b.made) made s.buffers (none_home t.homes s.buffers made stands.homes_are none)))
 
 pub returns-in_err-w-clause-found : goal.returns-in_err-w-clause-found
 returns-in_err-w-clause-found c = λ s stands.

@@ -1,7 +1,6 @@
 use Rattle.std.proofs.Common.{◌≡◌, ◌+◌, ◌<◌, ◌∙◌, List, length, get_or, refl, ap, sym, subst}
 use Rattle.std.proofs.lemmas.Bool.{ltb-true}
-use Rattle.bd_buffers.specs.declared.owned.OwnedWindow.{OwnedWindow}
-use Rattle.bd_buffers.specs.declared.windows.Windows.{Windows}
+use Rattle.bd_buffers.specs.{declared.owned.OwnedWindow.{OwnedWindow}, declared.windows.Windows.{Windows}}
 use Rattle.bd_buffers.proofs.AllWindows.{guessed}
 use Rattle.bd_buffers.proofs.windows.Windows.buffer.Goals as goal
 

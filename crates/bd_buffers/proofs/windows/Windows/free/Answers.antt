@@ -1,19 +1,10 @@
 use Rattle.std.proofs.Common.{◌≡◌, ◌≢◌, ◌+◌, ◌∙◌, ℕ, Some, None, cond, ap, sym, map, not}
 use Rattle.std.specs.Prelude.{filter}
-use Rattle.bd_keys.specs.Keys.{same_word}
-use Rattle.bd_keys.specs.Look.{look}
-use Rattle.bd_space.specs.declared.space.Buffer.{Buffer}
-use Rattle.bd_space.specs.Words.{changed}
-use Rattle.bd_space.specs.Windows.{buffers_of}
-use Rattle.bd_space.specs.Freeing.{without_buffer, is_made_at}
+use Rattle.bd_keys.specs.{Keys.{same_word}, Look.{look}}
+use Rattle.bd_space.specs.{declared.space.Buffer.{Buffer}, Words.{changed}, Windows.{buffers_of}, Freeing.{without_buffer, is_made_at}}
 use Rattle.bd_keys.proofs.Rising.{filter_none}
-use Rattle.bd_buffers.specs.declared.windows.Windows.{Windows}
-use Rattle.bd_buffers.specs.WindowsStand.{seen, window_of, with_buffers, is_of}
-use Rattle.bd_buffers.specs.Homes.{home_key}
-use Rattle.bd_buffers.proofs.Homes.{homes_forgotten, none_home, others_home}
-use Rattle.bd_buffers.proofs.AllWindows.{kept}
-use Rattle.bd_buffers.proofs.Order.{made_kept}
-use Rattle.bd_buffers.proofs.Owners.{order_one}
+use Rattle.bd_buffers.specs.{declared.windows.Windows.{Windows}, WindowsStand.{seen, window_of, with_buffers, is_of}, Homes.{home_key}}
+use Rattle.bd_buffers.proofs.{Homes.{homes_forgotten, none_home, others_home}, AllWindows.{kept}, Order.{made_kept}, Owners.{order_one}}
 use Rattle.bd_buffers.proofs.windows.Windows.free.Goals as goal
 
 pub returns-in-Some : goal.returns-in-Some

@@ -1,17 +1,9 @@
-use Rattle.std.proofs.Common.{◌≡◌, ◌≢◌, ◌+◌, ◌∙◌, ℕ, Some, None, ap, map, subst, sym}
+use Rattle.std.proofs.Common.{arith, ◌≡◌, ◌≢◌, ◌+◌, ◌∙◌, ℕ, Some, None, ap, map, subst, sym}
 use Rattle.bd_keys.specs.Look.{look}
-use Rattle.bd_space.specs.declared.space.Buffer.{Buffer}
-use Rattle.bd_space.specs.Words.{changed}
-use Rattle.bd_space.specs.Windows.{buffers_of}
-use Rattle.bd_space.specs.Freeing.{is_made_at}
-use Rattle.bd_space.specs.ReadItems.{read_by, buffer_taken, hand_out}
+use Rattle.bd_space.specs.{declared.space.Buffer.{Buffer}, Words.{changed}, Windows.{buffers_of}, Freeing.{is_made_at}, ReadItems.{read_by, buffer_taken, hand_out}}
 use Rattle.bd_space.proofs.Keyed.{changed_none}
-use Rattle.bd_buffers.specs.declared.windows.Windows.{Windows}
-use Rattle.bd_buffers.specs.WindowsStand.{seen, with_buffers, is_of, WindowsOf}
-use Rattle.bd_buffers.specs.Homes.{home_key}
-use Rattle.bd_buffers.proofs.Homes.{none_home, others_home}
-use Rattle.bd_buffers.proofs.AllWindows.{handed, handed_by, none_handed_by}
-use Rattle.bd_buffers.proofs.Owners.{order_one}
+use Rattle.bd_buffers.specs.{declared.windows.Windows.{Windows}, WindowsStand.{seen, with_buffers, is_of, WindowsOf}, Homes.{home_key}}
+use Rattle.bd_buffers.proofs.{Homes.{none_home, others_home}, AllWindows.{handed, handed_by, none_handed_by}, Owners.{order_one}}
 use Rattle.bd_buffers.proofs.windows.Windows.hand_out.Goals as goal
 
 pub invariant_of-self : goal.invariant_of-self
@@ -45,5 +37,4 @@ returns-in_default-get c = λ s seat ws stands e.
 
 pub returns-in_default : goal.returns-in_default
 unfolding read_by
-returns-in_default c = λ s seat ws stands e.
-    none_handed_by c.args.self.now (s.steps + 1) s.processes s.buffers (buffer_taken s ws) (sym c.in_default.is ∙ e) stands
+returns-in_default c = λ s seat ws stands e. grind (arith, none_handed_by)

@@ -1,7 +1,7 @@
-use Rattle.std.proofs.Common.{ℕ, ◌≤◌, ◌∙◌, ap, sym, subst, ◌+◌, ◌++◌, append-nil, length, map}
+use Rattle.std.proofs.Common.{arith, ◌∙◌, ap, sym, ◌+◌, ◌++◌, append-nil, map}
+use Rattle.std.proofs.lemmas.List.{length-map}
 use Rattle.bd_buffers.specs.WindowsStand.{buffers_held, made_of_buffer}
-use Rattle.bd_buffers.proofs.Changes.{on_ok, on_err}
-use Rattle.bd_buffers.proofs.AllWindows.{held}
+use Rattle.bd_buffers.proofs.{Changes.{on_ok, on_err}, AllWindows.{held}}
 use Rattle.bd_buffers.proofs.windows.Windows.list_made.Goals as goal
 
 pub returns-in-None-clause-listed : goal.returns-in-None-clause-listed
@@ -13,9 +13,8 @@ pub returns-in-Some-clause-listed : goal.returns-in-Some-clause-listed
 returns-in-Some-clause-listed c =
     let places = c.args.places.now.items in
     on_ok _ _ (λ listed s stands.
-    listed ∙ ap (λ bs. places ++ map made_of_buffer bs) (ap buffers_held c.in-Some.ensures.found ∙ held c.args.self.now (s.steps + 1) c.args.p s.processes s.buffers stands)) c.list_made.result c.list_made.ensures.listed
+    listed ∙ ap (λ ms. places ++ ms) (c.rows.ensures.places ∙ ap (map made_of_buffer) (ap buffers_held c.in-Some.ensures.found ∙ held c.args.self.now (s.steps + 1) c.args.p s.processes s.buffers stands)))
+    c.list_made.result c.list_made.ensures.listed
 
 pub returns-in-Some-clause-grown : goal.returns-in-Some-clause-grown
-returns-in-Some-clause-grown c =
-    on_err _ _ (λ some s stands.
-    subst (λ (n : ℕ). 1 ≤ n) (ap length (ap buffers_held c.in-Some.ensures.found ∙ held c.args.self.now (s.steps + 1) c.args.p s.processes s.buffers stands)) some) c.list_made.result c.list_made.ensures.grown
+returns-in-Some-clause-grown c = grind (arith, on_err, held, length-map)

@@ -1,21 +1,13 @@
 use Rattle.std.proofs.Common.{ℕ, List, false, ◌<◌, ◌∙◌, ◌++◌, ◌∷◌, [], All, refl, sym, ap, subst, arith}
-use Rattle.std.proofs.lemmas.Bool.{false≢true}
-use Rattle.std.proofs.lemmas.List.Quantifiers.{all_pairs_push}
+use Rattle.std.proofs.{lemmas.Bool.{false≢true}, lemmas.List.Quantifiers.{all_pairs_push}}
 use Rattle.bd_space.specs.Steps.{with_process}
-use Rattle.bd_buffers.specs.declared.owned.OwnedWindow.{OwnedWindow}
-use Rattle.bd_buffers.specs.declared.windows.Windows.{Windows}
-use Rattle.bd_buffers.specs.WindowsStand.{window_room}
-use Rattle.bd_buffers.specs.Owners.{AreInOrder}
-use Rattle.bd_buffers.proofs.AllWindows.{opened}
-use Rattle.bd_buffers.proofs.Owners.{owners_before}
+use Rattle.bd_buffers.specs.{declared.owned.OwnedWindow.{OwnedWindow}, declared.windows.Windows.{Windows}, WindowsStand.{window_room}, Owners.{AreInOrder}}
+use Rattle.bd_buffers.proofs.{AllWindows.{opened}, Owners.{owners_before}}
 use Rattle.bd_buffers.proofs.windows.Windows.open.Goals as goal
 
 pub push_reserved-requires : goal.push_reserved-requires
 unfolding window_room
-push_reserved-requires c =
-    let one = c.requires.room in
-    let room = ap (λ (v : Windows). v.room) c.self.view_is in
-    omega (arith, one, room)
+push_reserved-requires c = grind arith
 
 pub invariant_of-self : goal.invariant_of-self
 invariant_of-self c =

@@ -1,7 +1,6 @@
 use Rattle.std.proofs.Common.{◌≡◌, ◌+◌, ◌∙◌, ap, find}
 use Rattle.std.specs.Prelude.{option_copied}
-use Rattle.bd_buffers.specs.declared.windows.Windows.{Windows}
-use Rattle.bd_buffers.specs.WindowsStand.{is_owned_by}
+use Rattle.bd_buffers.specs.{declared.windows.Windows.{Windows}, WindowsStand.{is_owned_by}}
 use Rattle.bd_buffers.proofs.AllWindows.{gone_as, lives_as}
 use Rattle.bd_buffers.proofs.windows.Windows.owned.Goals as goal
 

@@ -1,12 +1,7 @@
-use Rattle.std.proofs.Common.{◌≡◌, List, find, refl, sym, ap, ◌∙◌, subst, set, map, Some, arith}
-use Rattle.bd_keys.specs.Look.{look, word_room}
+use Rattle.std.proofs.Common.{◌≡◌, find, refl, sym, ap, ◌∙◌, subst, set, Some, arith}
 use Rattle.bd_keys.proofs.Rising.{find_none}
-use Rattle.bd_buffers.proofs.Homes.{homes_same}
-use Rattle.bd_buffers.specs.declared.owned.OwnedWindow.{OwnedWindow}
-use Rattle.bd_buffers.specs.declared.windows.Windows.{Windows}
-use Rattle.bd_buffers.specs.WindowsStand.{ProcessWindow, is_owned_by, is_of, RoomIn, HasBufferRoom, CanAdd, CanHoldIn, seen}
-use Rattle.bd_buffers.proofs.Changes.{on_ok, on_err, refused}
-use Rattle.bd_buffers.proofs.AllWindows.{is_at, left_at, stay, stay_seen}
+use Rattle.bd_buffers.proofs.{Changes.{on_ok, on_err, refused}, AllWindows.{is_at, left_at, stay_seen}}
+use Rattle.bd_buffers.specs.{declared.owned.OwnedWindow.{OwnedWindow}, declared.windows.Windows.{Windows}, WindowsStand.{is_owned_by, RoomIn, HasBufferRoom, CanAdd}}
 use Rattle.bd_buffers.proofs.windows.Windows.reserve_buffer.Goals as goal
 
 pub returns-in-None-clause-room : goal.returns-in-None-clause-room
@@ -15,17 +10,9 @@ returns-in-None-clause-room c =
     let none = find_none (λ (w : OwnedWindow). w.owner) c.args.p c.self.inside.windows.items (rw c.deref.ensures.value at c.in-None.ensures) in
     (subst (λ o. RoomIn o c.args.start c.args.size) (sym none) tt, c.in_ok-reserve.ensures.room)
 
-pub returns-in-Some-clause-stands : goal.returns-in-Some-clause-stands
-returns-in-Some-clause-stands c = λ s stands.
-    stay c.args.self.now _ s.steps s.processes s.buffers
-    (stay_seen c.self.inside.windows.items c.in-Some.at c.index_mut.result.now c.reserve-in-Some.new.self c.index_mut.ensures.value c.reserve-in-Some.ensures.stands ∙ ap (λ (v : Windows). map seen v.windows) c.self.view_is)
-    (homes_same c.args.self.now.homes c.reserve.new.self s.buffers (λ k. c.reserve.ensures.kept k ∙ ap (λ (v : Windows). look v.homes k) c.self.view_is) stands.homes_are) stands
-
 pub returns-in-Some-clause-can_add : goal.returns-in-Some-clause-can_add
 unfolding CanAdd
-returns-in-Some-clause-can_add c = λ q one_way size start can.
-    let P : List ProcessWindow → Type 0 = λ xs. CanHoldIn (find (is_of q) xs) one_way size start in
-    subst P (sym (stay_seen c.self.inside.windows.items c.in-Some.at c.index_mut.result.now c.reserve-in-Some.new.self c.index_mut.ensures.value c.reserve-in-Some.ensures.stands ∙ ap (λ (v : Windows). map seen v.windows) c.self.view_is)) can
+returns-in-Some-clause-can_add c = λ q one_way size start can. grind (arith, stay_seen)
 
 pub returns-in-Some-clause-room : goal.returns-in-Some-clause-room
 unfolding HasBufferRoom
@@ -46,19 +33,12 @@ returns-in-Some-clause-grown c =
 
 pub returns-in_err-reserve-clause-can_add : goal.returns-in_err-reserve-clause-can_add
 unfolding CanAdd
-returns-in_err-reserve-clause-can_add c = λ q one_way size start can.
-    let P : Windows → Type 0 = λ v. CanHoldIn (find (is_of q) (map seen v.windows)) one_way size start in
-    subst P (sym c.self.view_is) can
+returns-in_err-reserve-clause-can_add c = λ q one_way size start can. grind arith
 
 pub returns-in_err-reserve-clause-grown : goal.returns-in_err-reserve-clause-grown
 unfolding HasBufferRoom
-returns-in_err-reserve-clause-grown c =
-    let same = ap (λ (v : Windows). word_room v.homes) c.self.view_is in
-    let none = c.in_err-reserve.ensures.grown in
-    refused c.from_residual.result _ (λ has. (let room = has.1 in omega (arith, none, same, room)))
+returns-in_err-reserve-clause-grown c = grind (arith, refused)
 
 pub returns-in-None-clause-can_add : goal.returns-in-None-clause-can_add
 unfolding CanAdd
-returns-in-None-clause-can_add c = λ q one_way size start can.
-    let P : Windows → Type 0 = λ v. CanHoldIn (find (is_of q) (map seen v.windows)) one_way size start in
-    subst P (sym c.self.view_is) can
+returns-in-None-clause-can_add c = λ q one_way size start can. grind arith

@@ -1,11 +1,7 @@
-use Rattle.std.proofs.Common.{ℕ, Bool, ◌≡◌, Some, Ok, Err, sym, find}
+use Rattle.std.proofs.Common.{arith, ℕ, Bool, ◌≡◌, Some, Ok, Err, find}
 use Rattle.std.specs.Prelude.{Result, IfOk}
 use Rattle.bd_uapi.specs.declared.fault.Cause.{Cause}
-use Rattle.bd_space.specs.Windows.{needed}
-use Rattle.bd_buffers.specs.Stands.{CanHold}
-use Rattle.bd_buffers.specs.declared.owned.OwnedWindow.{OwnedWindow}
-use Rattle.bd_buffers.specs.declared.windows.Windows.{Windows}
-use Rattle.bd_buffers.specs.WindowsStand.{is_owned_by, CanAdd}
+use Rattle.bd_buffers.specs.{Stands.{CanHold}, declared.owned.OwnedWindow.{OwnedWindow}, declared.windows.Windows.{Windows}, WindowsStand.{is_owned_by, CanAdd}}
 use Rattle.bd_buffers.proofs.AllWindows.{can_hold_back}
 use Rattle.bd_buffers.proofs.windows.Windows.start_for.Goals as goal
 
@@ -16,5 +12,4 @@ can_add_of t p w one_way n (Ok start) found can = can_hold_back t p w one_way n 
 can_add_of t p w one_way n (Err x) found can = tt
 
 pub returns-in-Some-clause-can_add : goal.returns-in-Some-clause-can_add
-returns-in-Some-clause-can_add c =
-    can_add_of c.args.self.now c.args.p c.in-Some.w.now c.args.one_way (needed c.args.data_size c.args.offsets_size) c.start_for.result (sym c.in-Some.ensures.found) c.start_for.ensures.can_take
+returns-in-Some-clause-can_add c = grind (arith, can_add_of)

@@ -7,8 +7,6 @@ use Rattle.bd_ground.proofs.spans.Spans.give.Goals as goal
 pub returns-then-end-tail-clause-tiles : goal.returns-then-end-tail-clause-tiles
 returns-then-end-tail-clause-tiles c = λ free is taken.
     let e = c.begin_of-begin.ensures in
-    let within = e.within in
-    let long = is.long in
     let t = c.args.self.now in
     let begin : IsBegin t c.args.start c.begin_of-begin.result = record { within = e.within; hole = e.hole; none = e.none } in
     tiles_back free t c.args.start c.args.n c.begin_of-begin.result is (omega arith) (omega arith) taken begin _
@@ -17,21 +15,15 @@ returns-then-end-tail-clause-tiles c = λ free is taken.
 pub returns-clause-tiles : goal.returns-clause-tiles
 returns-clause-tiles c = λ free is taken.
     let e = c.begin_of-begin.ensures in
-    let within = e.within in
-    let long = is.long in
-    let named = is.named in
-    let small = is.small in
-    let inside = is.within in
     let t = c.args.self.now in
     let p = c.args.start in
     let n = c.args.n in
     let b = c.begin_of-begin.result in
     let begin : IsBegin t p b = record { within = e.within; hole = e.hole; none = e.none } in
     let before : p + n < t.tail = omega arith in
-    let bound : p + n + hole_at t (p + n) ≤ t.tail = elim (cases_lt 0 (hole_at t (p + n))) [ inl pos ↦ (let h = is.holes (p + n) pos in let i = h.inside in omega arith) | inr none ↦ omega arith ] in
+    let bound : p + n + hole_at t (p + n) ≤ t.tail = elim (cases_lt 0 (hole_at t (p + n))) [ inl pos ↦ (let h = is.holes (p + n) pos in omega arith) | inr none ↦ omega arith ] in
     let had : c.get-behind.result ≡ hole_at t (p + n) = c.get-behind.ensures in
     let size : c.saturating_add.result ≡ p + n - b + hole_at t (p + n) = omega (arith, c.saturating_add.ensures) in
-    let same = c.set-2.ensures.same in
     tiles_given free t p n b is (omega arith) (omega arith) taken begin c.put.new.self
     before c.put.ensures.same.1 c.put.ensures.same.0 (c.put.ensures.len.0 ∙ c.set-2.ensures.same) c.put.ensures.len.1
     (c.put.ensures.at (omega arith) ∙ size)

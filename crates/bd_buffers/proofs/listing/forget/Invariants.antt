@@ -1,0 +1,7 @@
+use Rattle.std.proofs.Common.{take}
+use Rattle.bd_buffers.specs.{Homes.{Forgets}, Rows.{live_places}}
+use Rattle.bd_buffers.proofs.listing.forget.Given as goal
+
+-- those in rows before this one are forgotten
+abbrev pub invariant-loop-gone : goal.invariant-loop-gone
+invariant-loop-gone l = Forgets (live_places (take l.gone-index l.rows)) l.initial.homes l.homes
