@@ -17,11 +17,8 @@ use std::marker::Model;
 use std::mem::replace;
 use std::slice::from_ref;
 
-// The bytes of a chunk. A larger entry has one of its own.
-const CHUNK: usize = 262144;
-
-/// Entries spelled as a journal spells them, in chunks that are never moved. A contract sees the entries as a list, and for how many
-/// bytes of another no memory is asked.
+/// Entries spelled as a journal spells them, in chunks that are never moved. A contract sees the entries as a list, the size of another
+/// that there is room for, and that for which no memory is asked where room is made.
 #[derive(Drop, Debug)]
 pub struct Log {
     // Those before the last one, in order.
@@ -39,7 +36,7 @@ impl Model for Log {
 
     ghost Value = { LogView };
 
-    ghost view = { λ l. record { entries = all_entries l.full.items l.last; room = l.last.room } };
+    ghost view = { λ l. record { entries = all_entries l.full.items l.last; room = l.last.room; memory = l.last.memory } };
 
     ghost invariant = { λ l. (l.count ≡ length (all_entries l.full.items l.last)) × AreSeatsOf l.seats (all_entries l.full.items l.last) };
 }
@@ -75,14 +72,14 @@ impl Log {
     pub fn reserve(&mut self, bytes: usize) -> Result<(), AllocError>
         ensures entries { self.new.entries ≡ self.old.entries }
         ensures room { OnOk result (bytes ≤ self.new.room) }
-        // Memory was asked for: the room was less.
-        ensures grown { OnErr result (self.old.room < bytes) }
+        // Memory was asked for: room and free memory were less.
+        ensures grown { OnErr result ((self.old.room < bytes) × (self.old.memory < bytes)) }
     {
-        if bytes <= self.last.room() {
+        if bytes <= self.last.room() || self.last.make_room(bytes) {
             return Ok(());
         }
         self.full.reserve(1)?;
-        let next = Chunk::with_capacity(*self.full.allocator(), bytes.max(CHUNK))?;
+        let next = Chunk::with_capacity(*self.full.allocator(), bytes)?;
         let last = replace(&mut self.last, next);
         self.full.push_reserved(last);
         Ok(())
@@ -97,6 +94,7 @@ impl Log {
         requires count { length self.old.entries + 1 < 18446744073709551616 }
         ensures entries { self.new.entries ≡ self.old.entries ++ entry.now ∷ [] }
         ensures room { self.old.room ≤ self.new.room + length (entry_bytes entry.now) }
+        ensures memory { self.old.memory ≤ self.new.memory + length (entry_bytes entry.now) }
     {
         self.last.push(entry, command, step);
         self.count += 1;
@@ -107,9 +105,9 @@ impl Log {
     pub fn append(&mut self, entry: &Entry) -> Result<(), AllocError>
         ensures added { OnOk result (self.new.entries ≡ self.old.entries ++ entry.now ∷ []) }
         ensures err { OnErr result (self.new.entries ≡ self.old.entries) }
-        // Memory was asked for, where there is a spelling and a number for the entry: the room was less.
+        // Memory was asked for, where there is a spelling and a number for the entry: room and free memory were less.
         ensures grown { OnErr result (IsEntry every_seat entry.now → length self.old.entries + 1 < 18446744073709551616
-            → self.old.room < length (entry_bytes entry.now)) }
+            → (self.old.room < length (entry_bytes entry.now)) × (self.old.memory < length (entry_bytes entry.now))) }
     {
         if self.count == usize::MAX || entry.seat == EVERY_SEAT {
             return Err(AllocError);
