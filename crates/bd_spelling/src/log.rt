@@ -68,14 +68,14 @@ impl Log {
         self.count
     }
 
-    /// Makes room for an entry of this size. No entry is changed, even where it fails. Errors: memory was refused.
-    pub fn reserve(&mut self, bytes: usize) -> Result<(), AllocError>
+    // Room for an entry of this size, where there isn't any.
+    #[inline(never)]
+    fn grow(&mut self, bytes: usize) -> Result<(), AllocError>
         ensures entries { self.new.entries ≡ self.old.entries }
         ensures room { OnOk result (bytes ≤ self.new.room) }
-        // Memory was asked for: room and free memory were less.
-        ensures grown { OnErr result ((self.old.room < bytes) × (self.old.memory < bytes)) }
+        ensures grown { OnErr result (self.old.memory < bytes) }
     {
-        if bytes <= self.last.room() || self.last.make_room(bytes) {
+        if self.last.make_room(bytes) {
             return Ok(());
         }
         self.full.reserve(1)?;
@@ -83,6 +83,20 @@ impl Log {
         let last = replace(&mut self.last, next);
         self.full.push_reserved(last);
         Ok(())
+    }
+
+    /// Makes room for an entry of this size. No entry is changed, even where it fails. Errors: memory was refused.
+    #[inline(always)]
+    pub fn reserve(&mut self, bytes: usize) -> Result<(), AllocError>
+        ensures entries { self.new.entries ≡ self.old.entries }
+        ensures room { OnOk result (bytes ≤ self.new.room) }
+        // Memory was asked for: room and free memory were less.
+        ensures grown { OnErr result ((self.old.room < bytes) × (self.old.memory < bytes)) }
+    {
+        if bytes <= self.last.room() {
+            return Ok(());
+        }
+        self.grow(bytes)
     }
 
     /// Adds an entry that a journal spells, whose command these bytes spell, and for which room was made. It can't fail.
