@@ -50,10 +50,6 @@ wrote_unrefused : (es : List Entry) (w : Written) → IsUnrefused es → wrote w
 wrote_unrefused [] w h = refl
 wrote_unrefused (e ∷ es) w h = h w
 
-wrote_push : (es : List Entry) (e : Entry) (w : Written) → IsUnrefused es → 0 < length es → wrote w (es ++ e ∷ []) ≡ Wrote w.consumed w.notes w.stop
-wrote_push [] e w h k = absurd (omega arith)
-wrote_push (x ∷ es) e w h k = h w
-
 -- ---- the next command
 
 -- a command that is refused is the last

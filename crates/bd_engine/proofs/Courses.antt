@@ -21,8 +21,10 @@ use Rattle.bd_space.specs.Runs.{HasRun}
 use Rattle.bd_step.specs.declared.step_error.StepError.{StepError}
 use Rattle.bd_engine.specs.declared.write.Progress.{Progress}
 use Rattle.bd_engine.specs.declared.write.Going.{Going}
+use Rattle.bd_engine.specs.declared.write.Going.TheVariants as going
 use Rattle.bd_engine.specs.Refusals.{FullOnly, MemoryOnly}
 use Rattle.bd_engine.specs.Writing.{Course, GoesOn, Ends, course_of, course_or, IsSame, GoesTo, IsAfter, IsCutAt, IsProgress, IsTurnedAway, HasCome, IsNext, IsCourse, fault_of, stopped}
+use Rattle.bd_engine.specs.Writing as writing
 use Rattle.bd_engine.proofs.Commands.{turned_away, cut_short, ended, went_on}
 
 pub by_count : {A : Type 0} (P : A → Type 0) (n : ℕ) (a b : A) → (n ≡ 0 → P a) → (0 < n → P b) → P (cond (n == 0) a b)
@@ -92,22 +94,26 @@ next_fault stream at x e = ap command_at (sym (rest_is stream at)) ∙ e
 
 -- ---- how a write goes on, with room made for a note
 
--- What holds of the course that a brief result stands for holds of the result.
-cut_in_brief : (p : Progress) (F : Course → Type 0) (G : StepError → Type 0) (r : Result Going StepError) → MatchResult (course_or p r) F G → MatchResult r (λ g. F (course_of p g)) G
-cut_in_brief p F G (Ok g) m = m
-cut_in_brief p F G (Err why) m = m
+-- A write whose step wasn't taken doesn't go on, as nothing of its command was consumed: its course is its run.
+ends_in_brief : (old new : History) (seat : ℕ) (stream area : List ℕ) (q : Progress) (n : ℕ) (G : StepError → Type 0) (r : Result Going StepError)
+    → q.consumed < n → MatchResult (course_or q r) (λ course. IsCourse old new seat stream area n course) G
+    → MatchResult r (λ g. HasRun old new seat (Write stream area) (writing.ended q g) (length old.entries) (length new.entries)) G
+ends_in_brief old new seat stream area q n G (Ok going.On) less m = absurd (omega (arith, less, m.1))
+ends_in_brief old new seat stream area q n G (Ok (going.Stops y)) less m = m
+ends_in_brief old new seat stream area q n G (Ok (going.Refused x)) less m = m
+ends_in_brief old new seat stream area q n G (Err why) less m = m
 
 pub course_cut : (old now new : History) (seat : ℕ) (stream area : List ℕ) (p q : Progress) (c : Command) (size : ℕ) (why : StepError) (r : Result Going StepError)
     → HasCome old now seat stream area p → IsNext stream p.consumed c size → IsSame p q → new ≡ now → IsCutAt q why (course_or q r)
     → FullOnly why (is_at_limit now seat (Some (step_of_command area c)) ≡ true) → MemoryOnly why (HasPlace now)
-    → MatchResult r (λ g. IsCourse old new seat stream area (p.consumed + size) (course_of q g)) (λ w. (new ≡ old) × IsTurnedAway old seat (Write stream area) w)
+    → MatchResult r (λ g. HasRun old new seat (Write stream area) (writing.ended q g) (length old.entries) (length new.entries)) (λ w. (new ≡ old) × IsTurnedAway old seat (Write stream area) w)
 course_cut old now new seat stream area p q c size why r come is_next same kept is full place =
     let next : IsNext stream q.consumed c size = rw same.consumed is_next in
     let F : Course → Type 0 = λ course. IsCourse old new seat stream area (p.consumed + size) course in
     let G : StepError → Type 0 = λ w. (new ≡ old) × IsTurnedAway old seat (Write stream area) w in
     let whole : MatchResult (course_or q r) F G =
     rw (kept, ← same.consumed) (cut old now seat stream area q (HasCome_same old now seat stream area p q same come) c size next why (course_or q r) is full place) in
-    cut_in_brief q F G r whole
+    ends_in_brief old new seat stream area q (p.consumed + size) G r (omega (arith, same.consumed, is_next.some)) whole
 
 pub course_on : (old now new : History) (seat : ℕ) (stream area : List ℕ) (p q : Progress) (c : Command) (size : ℕ) (a : StepAnswer) (r : Course)
     → HasCome old now seat stream area p → IsNext stream p.consumed c size → IsSame p q → IsAfter q a size r

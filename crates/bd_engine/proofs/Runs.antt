@@ -55,12 +55,6 @@ too_long_has_run h seat stream area at long here =
       ends = here;
     }
 
--- no run changes how many seats there are
-pub run_seats : (old new : History) (seat : ℕ) (request : Request) (r : Result Ran StepError) → IfOk r (λ x. HasRun old new seat request x.answer x.from x.to) → OnErr r (new ≡ old)
-    → new.seats ≡ old.seats
-run_seats old new seat request (Ok x) ran kept = ran.seats
-run_seats old new seat request (Err why) ran kept = ap (λ (h : History). h.seats) kept
-
 -- ---- a request that is one step
 
 module _ (h : History) (seat : ℕ) (request : Request) (x : Step) (is : IsOneStep request x) where

@@ -15,11 +15,5 @@ pub(crate) fn kept(bytes: Bytes) -> Bytes {
     Bytes::new(Vec::new(*memory.allocator()))
 }
 
-/// Keeps the memory of these bytes in this room, unless it is much, or less than is there.
-#[inline(always)]
-pub(crate) fn keep(room: &mut Vec<u8>, bytes: Bytes) {
-    let memory = bytes.into_vec();
-    if memory.capacity() <= KEPT && memory.capacity() > room.capacity() {
-        *room = memory;
-    }
-}
+/// A vector of so many bytes at most has no more memory than is kept: one that grows has twice as much as before, or what it needs.
+pub(crate) const MUCH: usize = KEPT / 2;

@@ -1,21 +1,14 @@
 //! The step of a command, and its parcel, which is cut from the area of its write.
 
-ghost use Rattle.std.specs.Prelude.{◌≡◌, ◌+◌, nat_le, length, take, drop, true, false, IfOk, OnOk, MatchOption};
+ghost use Rattle.std.specs.Prelude.{◌≡◌, ◌+◌, nat_le, length, take, drop, true, false, None, Some, IfOk, OnOk, MatchOption};
 ghost use Rattle.bd_space.specs.Writes.{parcel_of, parcel_for, step_of_command};
 ghost use Rattle.bd_space.specs.declared.step.Step.TheVariants as step;
 
-use crate::memory::keep;
+use crate::memory::MUCH;
 use bd_space::{Bytes, Entry, Parcel, Step, StepAnswer};
 use bd_uapi::{Command, TransactionData};
 use std::alloc::{AllocError, Global};
 use std::mem::replace;
-
-// Memory for the two parts of a parcel. It is kept from command to command, so that most ask for none.
-#[derive(Drop)]
-struct ParcelRoom {
-    bytes: Vec<u8>,
-    offsets: Vec<u8>,
-}
 
 // The part of the area that begins at `start`, if it lies inside.
 #[inline(always)]
@@ -29,129 +22,162 @@ fn part(area: &[u8], start: u64, size: u64) -> Option<&[u8]>
     }
 }
 
-// A copy of these bytes, in the memory that is there, if it is enough.
+// The parts of the area that these fields speak of, if they lie inside.
 #[inline(always)]
-fn copied(room: &mut Vec<u8>, bytes: &[u8]) -> Result<Bytes, AllocError>
-    ensures { IfOk result (λ b. b ≡ bytes.now) }
+fn parts<'a>(area: &'a [u8], fields: &TransactionData) -> Option<(&'a [u8], &'a [u8])>
+    ensures { MatchOption result (parcel_of area.now fields.now ≡ None)
+        (λ p. parcel_of area.now fields.now ≡ Some (record { bytes = p.0.now; offsets = p.1.now })) }
 {
-    let none = Vec::new(*room.allocator());
-    if bytes.is_empty() {
-        return Ok(Bytes::new(none));
+    match part(area, fields.buffer, fields.data_size) {
+        None => None,
+        Some(data) => match part(area, fields.offsets, fields.offsets_size) {
+            None => None,
+            Some(offsets) => Some((data, offsets)),
+        },
     }
-    let mut copy = replace(room, none);
+}
+
+// The parts of the area that the parcel of a transaction or reply has, if they lie inside.
+#[tactic(auto, unfolding(bd_space::specs::Writes::parcel_for))]
+#[inline(always)]
+fn cut<'a>(area: &'a [u8], command: &Command) -> Option<(&'a [u8], &'a [u8])>
+    ensures { MatchOption result (parcel_for area.now command.now ≡ None)
+        (λ p. parcel_for area.now command.now ≡ Some (record { bytes = p.0.now; offsets = p.1.now })) }
+{
+    match command {
+        Command::Transaction(fields) | Command::Reply(fields) => parts(area, fields),
+        _ => None,
+    }
+}
+
+// Puts a copy of these bytes in place of those before, in their memory, if it is enough.
+#[inline(always)]
+fn refill(alloc: Global, to: &mut Bytes, bytes: &[u8]) -> Result<(), AllocError>
+    ensures { OnOk result (to.new ≡ bytes.now) }
+{
+    // Most offsets are none, and copying none costs as much as copying some.
+    if bytes.is_empty() && to.is_empty() {
+        return Ok(());
+    }
+    let mut copy = replace(to, Bytes::new(Vec::new(alloc))).into_vec();
     copy.clear();
     copy.extend_from_slice(bytes)?;
-    Ok(Bytes::new(copy))
+    *to = Bytes::new(copy);
+    Ok(())
 }
 
-impl ParcelRoom {
-    // No memory yet.
-    fn new(alloc: Global) -> ParcelRoom {
-        ParcelRoom {
-            bytes: Vec::new(alloc),
-            offsets: Vec::new(alloc),
-        }
-    }
-
-    // The parcel that these fields speak of, if it lies inside the area.
-    #[inline(always)]
-    fn parcel_of(
-        &mut self,
-        area: &[u8],
-        fields: &TransactionData,
-    ) -> Result<Option<Parcel>, AllocError>
-        ensures { IfOk result (λ p. p ≡ parcel_of area.now fields.now) }
-    {
-        match part(area, fields.buffer, fields.data_size) {
-            None => Ok(None),
-            Some(data) => match part(area, fields.offsets, fields.offsets_size) {
-                None => Ok(None),
-                Some(offsets) => Ok(Some(Parcel {
-                    bytes: copied(&mut self.bytes, data)?,
-                    offsets: copied(&mut self.offsets, offsets)?,
-                })),
-            },
-        }
-    }
-
-    // The parcel of a transaction or reply, in memory of its own, if it lies inside the area.
-    #[tactic(auto, unfolding(bd_space::specs::Writes::parcel_for))]
-    #[inline(always)]
-    fn parcel_for(&mut self, area: &[u8], command: &Command) -> Result<Option<Parcel>, AllocError>
-        ensures { IfOk result (λ p. p ≡ parcel_for area.now command.now) }
-    {
-        match command {
-            Command::Transaction(fields) | Command::Reply(fields) => self.parcel_of(area, fields),
-            _ => Ok(None),
-        }
-    }
-
-    // Keeps the memory of a parcel for the next one.
-    #[inline(always)]
-    fn keep(&mut self, parcel: Option<Parcel>) {
-        if let Some(Parcel { bytes, offsets }) = parcel {
-            keep(&mut self.bytes, bytes);
-            keep(&mut self.offsets, offsets);
-        }
-    }
-}
-
-/// The entry of the latest command, which stays from command to command: nothing of it is cleared for the next one.
-#[derive(Drop)]
-pub(crate) struct Sheet {
-    pub(crate) entry: Entry,
-    room: ParcelRoom,
-}
-
-// Puts a command's step in place of that of the one before it. What is there already isn't written again.
+// Puts the step of a command without a parcel in place of that of the one before it.
 #[inline(always)]
-fn put_step(to: &mut Step, made: Command, cut: Option<Parcel>)
-    ensures { to.new ≡ step.Command made cut }
+fn put_bare(to: &mut Step, made: Command)
+    ensures { to.new ≡ step.Command made None }
 {
     let Step::Command { command, parcel } = to else {
         *to = Step::Command {
             command: made,
-            parcel: cut,
+            parcel: None,
         };
         return;
     };
     *command = made;
-    if cut.is_some() || parcel.is_some() {
-        *parcel = cut;
+    if parcel.is_some() {
+        *parcel = None;
     }
 }
 
+// Puts the step of a command with a parcel of these parts in place of that of the one before it, and uses its memory.
+#[inline(always)]
+fn put_sent(
+    alloc: Global,
+    to: &mut Step,
+    made: Command,
+    bytes: &[u8],
+    offsets: &[u8],
+) -> Result<(), AllocError>
+    ensures { OnOk result (to.new ≡ step.Command made (Some (record { bytes = bytes.now; offsets = offsets.now }))) }
+{
+    if let Step::Command { command, parcel } = to {
+        if let Some(there) = parcel {
+            refill(alloc, &mut there.bytes, bytes)?;
+            refill(alloc, &mut there.offsets, offsets)?;
+            *command = made;
+            return Ok(());
+        }
+    }
+    *to = Step::Command {
+        command: made,
+        parcel: Some(Parcel {
+            bytes: Bytes::new(Vec::from_slice(alloc, bytes)?),
+            offsets: Bytes::new(Vec::from_slice(alloc, offsets)?),
+        }),
+    };
+    Ok(())
+}
+
+// An entry that nobody made.
+fn no_entry() -> Entry {
+    Entry {
+        seat: 0,
+        step: Step::ExitThread,
+        answer: StepAnswer::Exited,
+    }
+}
+
+/// The entries of the latest commands, which stay from command to command: nothing of them is cleared for the next one.
+#[derive(Drop)]
+pub(crate) struct Sheet {
+    // Of the latest without a parcel.
+    pub(crate) bare: Entry,
+    // Of the latest with one, whose memory the next one's is put into.
+    pub(crate) sent: Entry,
+    alloc: Global,
+}
+
 impl Sheet {
-    /// An entry that nobody made, and no memory yet.
+    /// Entries that nobody made, and no memory yet.
     pub(crate) fn new(alloc: Global) -> Sheet {
         Sheet {
-            entry: Entry {
-                seat: 0,
-                step: Step::ExitThread,
-                answer: StepAnswer::Exited,
-            },
-            room: ParcelRoom::new(alloc),
+            bare: no_entry(),
+            sent: no_entry(),
+            alloc,
         }
     }
 
-    /// Puts the step of a command there, whose parcel is cut from the area. Errors: memory was refused.
+    /// Puts the step of a command there, whose parcel is cut from the area: to `sent`, and then it answers true, or to `bare`. Errors:
+    /// memory was refused.
     #[inline(always)]
-    pub(crate) fn put(&mut self, seat: u32, area: &[u8], command: Command) -> Result<(), AllocError>
-        ensures seat { OnOk result (self.new.entry.seat ≡ seat) }
-        ensures step { OnOk result (self.new.entry.step ≡ step_of_command area.now command) }
+    pub(crate) fn put(
+        &mut self,
+        seat: u32,
+        area: &[u8],
+        command: Command,
+    ) -> Result<bool, AllocError>
+        ensures sent { IfOk result (λ sent. sent ≡ true
+            → (self.new.sent.seat ≡ seat) × (self.new.sent.step ≡ step_of_command area.now command)) }
+        ensures bare { IfOk result (λ sent. sent ≡ false
+            → (self.new.bare.seat ≡ seat) × (self.new.bare.step ≡ step_of_command area.now command)) }
     {
-        let parcel = self.room.parcel_for(area, &command)?;
-        self.entry.seat = seat;
-        put_step(&mut self.entry.step, command, parcel);
-        Ok(())
+        match cut(area, &command) {
+            None => {
+                self.bare.seat = seat;
+                put_bare(&mut self.bare.step, command);
+                Ok(false)
+            }
+            Some((data, offsets)) => {
+                self.sent.seat = seat;
+                put_sent(self.alloc, &mut self.sent.step, command, data, offsets)?;
+                Ok(true)
+            }
+        }
     }
 
-    /// Keeps the memory of the parcel, if there is one, for the next.
+    /// Gives up the memory of the parcel, where it is much.
     #[inline(always)]
-    pub(crate) fn keep_parcel(&mut self) {
-        if let Step::Command { command: _, parcel } = &mut self.entry.step {
-            if parcel.is_some() {
-                self.room.keep(parcel.take());
+    pub(crate) fn leave_much(&mut self) {
+        if let Step::Command { command: _, parcel } = &mut self.sent.step {
+            if let Some(there) = parcel {
+                if MUCH < there.bytes.len() || MUCH < there.offsets.len() {
+                    *parcel = None;
+                }
             }
         }
     }

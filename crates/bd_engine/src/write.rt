@@ -3,7 +3,7 @@
 ghost use Rattle.std.specs.Prelude.{◌≡◌, ◌≤◌, ◌<◌, ◌+◌, ◌-◌, ◌^◌, ◌++◌, ◌∷◌, [], List, ℕ, Err, true, Some, drop, length, vec_len, vec_capacity, IfOk, IfErr, OnOk, OnErr, MatchResult};
 ghost use Rattle.bd_uapi.specs.declared.command.Command.{Command};
 ghost use Rattle.bd_codec.specs.Reading.{command_at};
-ghost use Rattle.bd_ways.specs.Words.{StepAnswer};
+ghost use Rattle.bd_ways.specs.Words.{Step, StepAnswer};
 ghost use Rattle.bd_space.specs.declared.step.Request.TheVariants.{Write};
 ghost use Rattle.bd_space.specs.Histories.{History, space_after, extended, HasPlace, is_at_limit};
 ghost use Rattle.bd_space.specs.Steps as steps;
@@ -15,6 +15,7 @@ ghost use Rattle.bd_engine.specs.Writing.{Ends, course_of, course_or, ended, is_
 ghost use Rattle.bd_space.specs.declared.step.Answer.TheVariants.{Wrote};
 
 use crate::engine::Engine;
+use crate::memory::MUCH;
 use crate::parcel::Sheet;
 use crate::reading::Reading;
 use crate::run::Span;
@@ -222,6 +223,19 @@ impl Progress {
 }
 
 impl WideEngine {
+    // How it is told that a step found no memory: a full history is always told as such.
+    #[inline(never)]
+    fn without_memory(&self) -> StepError
+        ensures full { (seat : ℕ) (x : Step) → FullOnly result (is_at_limit self.now seat (Some x) ≡ true) }
+        ensures memory { MemoryOnly result (HasPlace self.now) }
+    {
+        if self.is_full() {
+            StepError::HistoryFull
+        } else {
+            StepError::NoMemory
+        }
+    }
+
     // Makes the step of a command, which these bytes spell. There is room for its note by then, so that no step that was made is lost.
     #[inline(always)]
     fn attempt(
@@ -246,46 +260,23 @@ impl WideEngine {
             (λ why. FullOnly why (is_at_limit self.old seat (Some (step_of_command area.now command)) ≡ true)) }
         ensures memory { IfErr result (λ why. MemoryOnly why (HasPlace self.old)) }
     {
-        if self.is_full() {
-            return Err(StepError::HistoryFull);
-        }
         if progress.reserve().is_err() {
-            return Err(StepError::NoMemory);
+            return Err(self.without_memory());
         }
         match sheet.put(seat, area, command) {
-            Err(AllocError) => Err(StepError::NoMemory),
-            Ok(()) => {
-                let made = self.step_in_place(&mut sheet.entry, spelled);
-                sheet.keep_parcel();
+            Err(AllocError) => {
+                sheet.leave_much();
+                Err(self.without_memory())
+            }
+            Ok(false) => self.step_in_place(&mut sheet.bare, spelled),
+            Ok(true) => {
+                let made = self.step_in_place(&mut sheet.sent, spelled);
+                // Both parts are of the area.
+                if MUCH < area.len() {
+                    sheet.leave_much();
+                }
                 made
             }
-        }
-    }
-
-    // Runs the next command of a write, which these bytes spell.
-    #[inline(always)]
-    fn run_command(
-        &mut self,
-        seat: u32,
-        area: &[u8],
-        command: Command,
-        spelled: &[u8],
-        progress: &mut Progress,
-        sheet: &mut Sheet,
-    ) -> Result<Going, StepError>
-        requires seat { seat < self.old.seats }
-        requires spelled { IsSpelled command spelled.now }
-        requires fits { progress.old.consumed + length spelled.now ≤ 4096 }
-        requires few { progress.old.count ≤ progress.old.consumed }
-        ensures { (old : History) (stream : List ℕ) → HasCome old self.old seat stream area.now progress.old
-            → IsNext stream progress.old.consumed command (length spelled.now)
-            → MatchResult result
-            (λ going. IsCourse old self.new seat stream area.now (progress.old.consumed + length spelled.now) (course_of progress.new going))
-            (λ why. (self.new ≡ old) × IsTurnedAway old seat (Write stream area.now) why) }
-    {
-        match self.attempt(seat, area, command, spelled, progress, sheet) {
-            Err(why) => progress.cut_short(why),
-            Ok(answer) => Ok(progress.after(answer, spelled.len() as u32)),
         }
     }
 
@@ -302,20 +293,22 @@ impl WideEngine {
         requires seat { seat < self.old.seats }
         requires short { length stream.now ≤ 4096 }
         requires begun { IsAt progress.old 0 0 [] }
-        ensures ok { IfOk result (λ going. HasRun self.old self.new seat (Write stream.now area.now) (ended progress.new going)
-            (length self.old.entries) (length self.new.entries)) }
-        ensures err { OnErr result (self.new ≡ self.old) }
-        ensures away { IfErr result (IsTurnedAway self.old seat (Write stream.now area.now)) }
+        ensures { MatchResult result
+            (λ going. HasRun self.old self.new seat (Write stream.now area.now) (ended progress.new going)
+            (length self.old.entries) (length self.new.entries))
+            (λ why. (self.new ≡ self.old) × IsTurnedAway self.old seat (Write stream.now area.now) why) }
     {
         'commands: while (progress.consumed as usize) < stream.len() {
             match progress.next(stream) {
                 Err(fault) => return Ok(Going::Stops(Stop::Fault(fault))),
                 Ok((command, spelled)) => {
-                    match self.run_command(seat, area, command, spelled, progress, sheet) {
-                        Err(why) => return Err(why),
-                        Ok(Going::On) => {}
-                        Ok(Going::Stops(stop)) => return Ok(Going::Stops(stop)),
-                        Ok(Going::Refused(fault)) => return Ok(Going::Refused(fault)),
+                    match self.attempt(seat, area, command, spelled, progress, sheet) {
+                        Err(why) => return progress.cut_short(why),
+                        Ok(answer) => match progress.after(answer, spelled.len() as u32) {
+                            Going::On => {}
+                            Going::Stops(stop) => return Ok(Going::Stops(stop)),
+                            Going::Refused(fault) => return Ok(Going::Refused(fault)),
+                        },
                     }
                 }
             }

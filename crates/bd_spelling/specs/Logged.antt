@@ -25,10 +25,12 @@ pub record AreSpelled (count : ℕ) (bytes : List ℕ) : Type 0 where
   pub counted : length (entries_in count bytes) ≡ count
   pub fit : AllByRecursion (IsEntry every_seat) (entries_in count bytes)
 
--- what contracts see of entries that are kept as bytes: the entries, and for how many bytes more there is room
+-- what contracts see of entries that are kept as bytes: the entries, for how many bytes more there is room, and how many are free of
+-- the memory that is there, the room among them
 pub record LogView : Type 0 where
   pub entries : List Entry
   pub room : ℕ
+  pub memory : ℕ
 
 -- the entries of chunks in their order, and then of the last
 abbrev pub all_entries : List LogView → LogView → List Entry

@@ -1,6 +1,6 @@
 //! Entries as bytes in one block of memory.
 
-ghost use Rattle.std.specs.Prelude.{◌≡◌, ◌+◌, ◌-◌, ◌++◌, ◌∷◌, ◌≤◌, [], length, IfOk, IfErr, OnOk, OnErr, Some, MatchOption};
+ghost use Rattle.std.specs.Prelude.{◌≡◌, ◌+◌, ◌-◌, ◌++◌, ◌∷◌, ◌≤◌, [], true, length, nat_le, vec_capacity, IfOk, IfErr, OnOk, OnErr, Some, MatchOption};
 ghost use Rattle.std.specs.List.{flat_map};
 ghost use Rattle.bd_spelling.specs.Spelling.{IsEntry, SpellsCommand, entry_bytes, step_bytes};
 ghost use Rattle.bd_spelling.specs.{Laid.{IsLaid}, Logged.{every_seat}};
@@ -16,17 +16,24 @@ use std::marker::Model;
 // More seats than any history has: what is kept here was made by one.
 pub const EVERY_SEAT: u32 = 4294967295;
 
-/// Spellings of entries, and room for more. A contract sees the entries that are spelled, and how many bytes there is room for.
+// The bytes of a chunk's memory. A larger entry has a chunk of its own.
+const CHUNK: usize = 262144;
+
+// So many bytes are cleared at once: those that are written next are still in the cache then.
+const PIECE: usize = 2048;
+
+/// Spellings of entries, and room for more. A contract sees the entries that are spelled, how many bytes there is room for, and how
+/// many bytes of its memory are free, of which the room is what has been cleared.
 #[derive(Drop, Debug)]
 pub struct Chunk {
-    // All of its memory, of which the first bytes are used.
+    // What has been cleared of its memory, of which the first bytes are used.
     bytes: Vec<u8>,
     used: usize,
     count: usize,
 }
 
 impl Model for Chunk {
-    ghost use Rattle.std.specs.Prelude.{◌-◌, ◌≤◌, length, take};
+    ghost use Rattle.std.specs.Prelude.{◌-◌, ◌≤◌, length, take, vec_capacity};
     ghost use Rattle.bd_spelling.specs.Logged.{LogView, AreSpelled, entries_in};
 
     ghost Value = { LogView };
@@ -34,6 +41,7 @@ impl Model for Chunk {
     ghost view = { λ c. record {
       entries = entries_in c.count (take c.used c.bytes.items);
       room = length c.bytes.items - c.used;
+      memory = vec_capacity c.bytes - c.used;
     } };
 
     ghost invariant = { λ c. AreSpelled c.count (take c.used c.bytes.items) × (c.used ≤ length c.bytes.items) };
@@ -46,7 +54,8 @@ fn lay_behind(bytes: &mut Vec<u8>, used: usize, entry: &Entry, command: &[u8], s
     requires step { step ≡ length (step_bytes entry.now.step) }
     requires spelled { IsEntry every_seat entry.now }
     requires room { used + length (entry_bytes entry.now) ≤ length bytes.old.items }
-    ensures { IsLaid used (entry_bytes entry.now) bytes.old.items bytes.new.items result }
+    ensures laid { IsLaid used (entry_bytes entry.now) bytes.old.items bytes.new.items result }
+    ensures memory { vec_capacity bytes.new ≡ vec_capacity bytes.old }
 {
     lay_whole(bytes, used, entry, command, step)
 }
@@ -68,11 +77,27 @@ impl Chunk {
         ensures none { IfOk result (λ c. c.entries ≡ []) }
         ensures room { IfOk result (λ c. room ≤ c.room) }
     {
+        let mut bytes = Vec::with_capacity(alloc, room.max(CHUNK))?;
+        bytes.resize(room, 0)?;
         Ok(Chunk {
-            bytes: vec![in alloc; 0; room]?,
+            bytes,
             used: 0,
             count: 0,
         })
+    }
+
+    /// Whether so many bytes of its memory are free. If so there is room for them from then on.
+    pub fn make_room(&mut self, room: usize) -> bool
+        ensures free { result ≡ nat_le room self.old.memory }
+        ensures room { result ≡ true → room ≤ self.new.room }
+        ensures entries { self.new.entries ≡ self.old.entries }
+    {
+        let free = self.bytes.capacity() - self.used;
+        if free < room {
+            return false;
+        }
+        let piece = room.max(PIECE).min(free);
+        self.bytes.resize(self.used + piece, 0).is_ok()
     }
 
     /// How many entries are in it.
@@ -105,6 +130,7 @@ impl Chunk {
         requires room { length (entry_bytes entry.now) ≤ self.old.room }
         ensures entries { self.new.entries ≡ self.old.entries ++ entry.now ∷ [] }
         ensures room { self.old.room ≤ self.new.room + length (entry_bytes entry.now) }
+        ensures memory { self.old.memory ≤ self.new.memory + length (entry_bytes entry.now) }
     {
         self.used = lay_behind(&mut self.bytes, self.used, entry, command, step);
         self.count += 1;

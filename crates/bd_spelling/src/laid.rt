@@ -106,7 +106,11 @@ fn lay_answer(out: &mut [u8], at: usize, answer: &StepAnswer) -> usize
         StepAnswer::Opened => lay(out, at, &[1, 0, 0, 0, 0]),
         StepAnswer::Set => lay(out, at, &[1, 0, 0, 0, 1]),
         StepAnswer::Exited => lay(out, at, &[1, 0, 0, 0, 2]),
-        StepAnswer::Accepted => lay(out, at, &[1, 0, 0, 0, 3]),
+        // Mostly it is this. These bytes together would be copied from elsewhere.
+        StepAnswer::Accepted => {
+            let at = lay_word(out, at, 1);
+            lay(out, at, &[3])
+        }
         StepAnswer::Noted(note) => lay(out, at, &[2, 0, 0, 0, 4, note_number(*note)]),
         StepAnswer::Stopped(cause) => lay(out, at, &[2, 0, 0, 0, 5, cause_number(*cause)]),
         StepAnswer::Got {

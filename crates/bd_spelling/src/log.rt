@@ -17,11 +17,8 @@ use std::marker::Model;
 use std::mem::replace;
 use std::slice::from_ref;
 
-// The bytes of a chunk. A larger entry has one of its own.
-const CHUNK: usize = 262144;
-
-/// Entries spelled as a journal spells them, in chunks that are never moved. A contract sees the entries as a list, and for how many
-/// bytes of another no memory is asked.
+/// Entries spelled as a journal spells them, in chunks that are never moved. A contract sees the entries as a list, the size of another
+/// that there is room for, and that for which no memory is asked where room is made.
 #[derive(Drop, Debug)]
 pub struct Log {
     // Those before the last one, in order.
@@ -39,7 +36,7 @@ impl Model for Log {
 
     ghost Value = { LogView };
 
-    ghost view = { λ l. record { entries = all_entries l.full.items l.last; room = l.last.room } };
+    ghost view = { λ l. record { entries = all_entries l.full.items l.last; room = l.last.room; memory = l.last.memory } };
 
     ghost invariant = { λ l. (l.count ≡ length (all_entries l.full.items l.last)) × AreSeatsOf l.seats (all_entries l.full.items l.last) };
 }
@@ -71,21 +68,35 @@ impl Log {
         self.count
     }
 
+    // Room for an entry of this size, where there isn't any.
+    #[inline(never)]
+    fn grow(&mut self, bytes: usize) -> Result<(), AllocError>
+        ensures entries { self.new.entries ≡ self.old.entries }
+        ensures room { OnOk result (bytes ≤ self.new.room) }
+        ensures grown { OnErr result (self.old.memory < bytes) }
+    {
+        if self.last.make_room(bytes) {
+            return Ok(());
+        }
+        self.full.reserve(1)?;
+        let next = Chunk::with_capacity(*self.full.allocator(), bytes)?;
+        let last = replace(&mut self.last, next);
+        self.full.push_reserved(last);
+        Ok(())
+    }
+
     /// Makes room for an entry of this size. No entry is changed, even where it fails. Errors: memory was refused.
+    #[inline(always)]
     pub fn reserve(&mut self, bytes: usize) -> Result<(), AllocError>
         ensures entries { self.new.entries ≡ self.old.entries }
         ensures room { OnOk result (bytes ≤ self.new.room) }
-        // Memory was asked for: the room was less.
-        ensures grown { OnErr result (self.old.room < bytes) }
+        // Memory was asked for: room and free memory were less.
+        ensures grown { OnErr result ((self.old.room < bytes) × (self.old.memory < bytes)) }
     {
         if bytes <= self.last.room() {
             return Ok(());
         }
-        self.full.reserve(1)?;
-        let next = Chunk::with_capacity(*self.full.allocator(), bytes.max(CHUNK))?;
-        let last = replace(&mut self.last, next);
-        self.full.push_reserved(last);
-        Ok(())
+        self.grow(bytes)
     }
 
     /// Adds an entry that a journal spells, whose command these bytes spell, and for which room was made. It can't fail.
@@ -97,6 +108,7 @@ impl Log {
         requires count { length self.old.entries + 1 < 18446744073709551616 }
         ensures entries { self.new.entries ≡ self.old.entries ++ entry.now ∷ [] }
         ensures room { self.old.room ≤ self.new.room + length (entry_bytes entry.now) }
+        ensures memory { self.old.memory ≤ self.new.memory + length (entry_bytes entry.now) }
     {
         self.last.push(entry, command, step);
         self.count += 1;
@@ -107,9 +119,9 @@ impl Log {
     pub fn append(&mut self, entry: &Entry) -> Result<(), AllocError>
         ensures added { OnOk result (self.new.entries ≡ self.old.entries ++ entry.now ∷ []) }
         ensures err { OnErr result (self.new.entries ≡ self.old.entries) }
-        // Memory was asked for, where there is a spelling and a number for the entry: the room was less.
+        // Memory was asked for, where there is a spelling and a number for the entry: room and free memory were less.
         ensures grown { OnErr result (IsEntry every_seat entry.now → length self.old.entries + 1 < 18446744073709551616
-            → self.old.room < length (entry_bytes entry.now)) }
+            → (self.old.room < length (entry_bytes entry.now)) × (self.old.memory < length (entry_bytes entry.now))) }
     {
         if self.count == usize::MAX || entry.seat == EVERY_SEAT {
             return Err(AllocError);

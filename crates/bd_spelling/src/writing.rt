@@ -61,6 +61,7 @@ pub fn command_of(step: &Step) -> Spelling
 
 /// How many bytes the spelling of a step has; None where no journal spells it. The step's command, if it is one, is spelled by
 /// these bytes.
+#[inline(always)]
 pub fn step_len(step: &Step, command: &[u8]) -> Option<u32>
     requires { SpellsCommand step.now command.now }
     ensures { Measures result (IsStep step.now × IsBlock (step_bytes step.now)) (length (step_bytes step.now)) }

@@ -1,7 +1,11 @@
 -- A step meets its definition, space by space.
-use Rattle.std.proofs.Common.{◌≡◌, true, Result, Ok, Err, refl, ap, sym, subst, ◌∙◌}
+use Rattle.std.proofs.Common.{ℕ, ◌≡◌, true, Option, Result, Ok, Err, refl, ap, sym, subst, ◌∙◌}
 use Rattle.bd_uapi.specs.declared.fault.Fault.{Fault}
 use Rattle.bd_uapi.specs.declared.fault.Note.{Note}
+use Rattle.bd_uapi.specs.declared.command.Command.{Command as BinderCommand}
+use Rattle.bd_space.specs.declared.step.Parcel.{Parcel}
+use Rattle.bd_space.specs.declared.step.Step.{Step}
+use Rattle.bd_space.specs.declared.step.Step.TheVariants.{Command, Read}
 use Rattle.bd_space.specs.declared.step.StepAnswer.{StepAnswer}
 use Rattle.bd_space.specs.declared.step.StepAnswer.TheVariants.{Noted, Refused}
 use Rattle.bd_space.specs.declared.space.Actor.{Actor}
@@ -13,7 +17,7 @@ use Rattle.bd_space.specs.Outcomes.{Outcome, noted, refused}
 use Rattle.bd_step.specs.declared.tables.Tables.{Tables}
 use Rattle.bd_step.specs.declared.answer.Plain.{Plain}
 use Rattle.bd_step.specs.declared.answer.Brief.{Brief}
-use Rattle.bd_step.specs.Plain.{answer_of, IsWritten}
+use Rattle.bd_step.specs.Plain.{IsRare, answer_of, IsWritten}
 use Rattle.bd_step.specs.Stands.{Before, Within}
 use Rattle.bd_step.specs.declared.step_error.StepError.{StepError}
 use Rattle.bd_step.specs.Refusals.{FullOnly}
@@ -73,21 +77,22 @@ module _ (old new : Tables) (kept : StepAnswer → Type 0) (P : Space → Type 0
       subst (IsStepWritten old new kept P f answer) (sym is.0) (record { ok = subst (Meets old new P f) (sym is.1) m.ok; brief = is.1; held = subst kept (sym is.1) (plain x); err = tt; full = tt })
   written_step (Err why) t is m = subst (IsStepWritten old new kept P f answer) (sym is) (record { ok = tt; brief = tt; held = tt; err = m.err; full = m.full })
 
--- ---- the step of a live thread, said as one of the thread's, and written
+-- ---- the step of a live thread, said as one of the thread's
 
 module _ (old : Tables) (a : Actor) (f : Space → Outcome) where
   -- where the definition asks for no live thread
   module _ (g : Space → Outcome) (same : (s : Space) → f s ≡ g s) where
-    pub any_step : (new : Tables) (kept : StepAnswer → Type 0) (answer : StepAnswer) → ((x : Plain) → kept (answer_of x)) → (r : Result Plain StepError) (t : Result Brief StepError) → IsWritten r t answer → IsStep old new IsAny g r
-        → IsStepWritten old new kept (IsBy a) f answer t
-    any_step new kept answer plain r t is m =
-        written_step old new kept (IsBy a) f answer plain r t is (as_step old IsAny (IsBy a) g f (λ s h by. (by.tidy, same s)) new r m)
+    pub any_step : (new : Tables) (r : Result Plain StepError) → IsStep old new IsAny g r → IsStep old new (IsBy a) f r
+    any_step new r m = as_step old IsAny (IsBy a) g f (λ s h by. (by.tidy, same s)) new r m
 
   module _ (g : Space → Actor → Outcome) (same : (s : Space) → f s ≡ by_actor s (actor s a.thread.seat) (g s)) where
     pub by_same : (s : Space) → Before old s → IsBy a s → IsBy a s × (f s ≡ g s a)
     by_same s h by = (by, same s ∙ ap (λ o. by_actor s o (g s)) by.acts)
 
-    pub by_step : (new : Tables) (kept : StepAnswer → Type 0) (answer : StepAnswer) → ((x : Plain) → kept (answer_of x)) → (r : Result Plain StepError) (t : Result Brief StepError) → IsWritten r t answer → IsStep old new (IsBy a) (λ s. g s a) r
-        → IsStepWritten old new kept (IsBy a) f answer t
-    by_step new kept answer plain r t is m =
-        written_step old new kept (IsBy a) f answer plain r t is (as_step old (IsBy a) (IsBy a) (λ s. g s a) f by_same new r m)
+    pub by_step : (new : Tables) (r : Result Plain StepError) → IsStep old new (IsBy a) (λ s. g s a) r → IsStep old new (IsBy a) f r
+    by_step new r m = as_step old (IsBy a) (IsBy a) (λ s. g s a) f by_same new r m
+
+pub is_rare : (x : Step) → ((c : BinderCommand) (parcel : Option Parcel) → x ≡ Command c parcel → ⊥) → ((limit : ℕ) → x ≡ Read limit → ⊥) → IsRare x
+is_rare (Command c parcel) k l = k c parcel refl
+is_rare (Read limit) k l = l limit refl
+is_rare _ k l = tt

@@ -1,6 +1,7 @@
 -- Answers that take no memory, and answers in brief.
 use Rattle.std.specs.Prelude.{◌≡◌, Result, Ok, Err}
-use Rattle.bd_ways.specs.Words.{StepAnswer}
+use Rattle.bd_ways.specs.Words.{Step, StepAnswer}
+use Rattle.bd_space.specs.declared.step.Step.TheVariants.{Command, Read}
 use Rattle.bd_space.specs.declared.step.StepAnswer.TheVariants as gave
 use Rattle.bd_step.specs.declared.answer.Plain.{Plain}
 use Rattle.bd_step.specs.declared.answer.Brief.{Brief}
@@ -16,6 +17,12 @@ answer_of Accepted = gave.Accepted
 answer_of (Noted n) = gave.Noted n
 answer_of (Stopped x) = gave.Stopped x
 answer_of (Refused x) = gave.Refused x
+
+-- the step is no command's, and reads nothing
+abbrev pub IsRare : Step → Type 0
+IsRare (Command command parcel) = ⊥
+IsRare (Read limit) = ⊥
+IsRare _ = Unit {0}
 
 -- it is what was read
 abbrev pub IsGot : StepAnswer → Type 0

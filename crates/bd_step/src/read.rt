@@ -162,6 +162,18 @@ fn emptied(bytes: Bytes) -> Vec<u8>
     memory
 }
 
+// Puts bytes into this memory. Most offsets are none, and putting none costs as much as putting some.
+#[inline(always)]
+fn put(to: &mut Vec<u8>, bytes: &[u8]) -> Result<(), AllocError>
+    requires { to.old.items ≡ [] }
+    ensures { OnOk result (to.new.items ≡ bytes.now) }
+{
+    if bytes.is_empty() {
+        return Ok(());
+    }
+    to.extend_from_slice(bytes)
+}
+
 // The answer of a read: the bytes, and copies of the data and offsets that are handed over, in this memory.
 #[inline(always)]
 fn got(
@@ -176,8 +188,8 @@ fn got(
     ensures got { IfOk result (λ answer. IsGot answer) }
 {
     if let Some(b) = buffer {
-        bytes.extend_from_slice(b.bytes())?;
-        offsets.extend_from_slice(b.offsets())?;
+        put(&mut bytes, b.bytes())?;
+        put(&mut offsets, b.offsets())?;
     }
     Ok(StepAnswer::Got {
         stream: Bytes::new(stream),

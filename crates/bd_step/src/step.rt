@@ -3,7 +3,7 @@
 ghost use Rattle.std.specs.Prelude.{◌≡◌};
 ghost use Rattle.bd_space.specs.{Steps.{change, command_step}};
 ghost use Rattle.bd_step.specs.declared.answer.Plain as words;
-ghost use Rattle.bd_step.specs.Plain.{answer_of};
+ghost use Rattle.bd_step.specs.Plain.{IsRare, answer_of};
 ghost use Rattle.bd_step.specs.{Stands.{KeepsTold}, Meets.{IsAny, IsBy, IsNobody, IsStep, IsStepWritten}};
 
 use crate::answer::{Brief, Plain, written};
@@ -44,6 +44,27 @@ impl Tables {
         }
     }
 
+    // The step of a live thread that is neither a command's nor reads. On its own: else there is room for the answer of each of
+    // these, and it is cleared in every step.
+    #[inline(never)]
+    fn change_rarely(&mut self, actor: Actor, step: &Step) -> Result<Plain, StepError>
+        requires { IsRare step.now }
+        ensures step { IsStep self.old self.new (IsBy actor) (λ s. change s actor.thread.seat step.now) result }
+        ensures told { KeepsTold self.old self.new }
+    {
+        match step {
+            Step::Open { pid, euid, window } => {
+                self.open(actor.thread.seat, *pid, *euid, *window)
+            }
+            Step::Attach { pid } => self.attach(actor.thread.seat, *pid),
+            Step::SetManager => self.set_manager(actor),
+            Step::SetSpam { on } => Ok(self.set_spam_detection(actor, *on)),
+            Step::ExitThread => self.exit_thread(actor),
+            Step::ExitProcess => self.exit_process(actor),
+            _ => unreachable!(),
+        }
+    }
+
     // The step of a live thread. Put into its caller: else its thread and process are copied once more.
     #[inline(always)]
     fn change_by<K: Keeps>(
@@ -60,20 +81,12 @@ impl Tables {
         ensures told { KeepsTold self.old self.new }
     {
         match step {
-            Step::Open { pid, euid, window } => written(
-                self.open(actor.thread.seat, *pid, *euid, *window),
-                answer,
-            ),
-            Step::Attach { pid } => written(self.attach(actor.thread.seat, *pid), answer),
-            Step::SetManager => written(self.set_manager(actor), answer),
-            Step::SetSpam { on } => written(Ok(self.set_spam_detection(actor, *on)), answer),
             Step::Command { command, parcel } => written(
                 self.command(actor, command, parcel),
                 answer,
             ),
             Step::Read { limit } => self.read(actor, *limit, answer, keep),
-            Step::ExitThread => written(self.exit_thread(actor), answer),
-            Step::ExitProcess => written(self.exit_process(actor), answer),
+            _ => written(self.change_rarely(actor, step), answer),
         }
     }
 

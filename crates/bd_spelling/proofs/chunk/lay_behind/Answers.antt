@@ -3,8 +3,8 @@ use Rattle.bd_spelling.specs.{Laid.{IsLaid}, Spelling.{entry_bytes}}
 use Rattle.bd_spelling.proofs.Laying.{written_back}
 use Rattle.bd_spelling.proofs.chunk.lay_behind.Goals as goal
 
-pub returns : goal.returns
-returns c =
+pub returns-clause-laid : goal.returns-clause-laid
+returns-clause-laid c =
     let old = c.args.bytes.now.items in
     let out = c.lay_whole.new.out in
     let laid = subst (λ (t : List ℕ). IsLaid c.args.used (entry_bytes c.args.entry.now) t out c.lay_whole.result) c.deref_mut.ensures.value c.lay_whole.ensures in

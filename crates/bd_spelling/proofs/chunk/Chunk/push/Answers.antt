@@ -13,7 +13,7 @@ overflow_add-self c =
 pub invariant_of-self : goal.invariant_of-self
 invariant_of-self c =
     let old = c.self.inside in
-    let laid = c.lay_behind-self-inside.ensures in
+    let laid = c.lay_behind-self-inside.ensures.laid in
     let view = ap (λ (v : LogView). v.room) c.self.view_is in (
       (more_at old.count (old.count + 1) (take old.used old.bytes.items) (take c.lay_behind-self-inside.result c.lay_behind-self-inside.new.bytes.items) c.args.entry.now c.self.invariant.0 c.requires.spelled refl laid.front).1,
       omega (arith, laid.ends, laid.same, view, c.requires.room, c.self.invariant.1, longer c.args.entry.now),
@@ -22,6 +22,6 @@ invariant_of-self c =
 pub returns-clause-entries : goal.returns-clause-entries
 returns-clause-entries c =
     let old = c.self.inside in
-    let laid = c.lay_behind-self-inside.ensures in
+    let laid = c.lay_behind-self-inside.ensures.laid in
     (more_at old.count (old.count + 1) (take old.used old.bytes.items) (take c.lay_behind-self-inside.result c.lay_behind-self-inside.new.bytes.items) c.args.entry.now c.self.invariant.0 c.requires.spelled refl laid.front).0
     ∙ ap (λ (v : LogView). v.entries ++ c.args.entry.now ∷ []) c.self.view_is

@@ -1,6 +1,0 @@
-use Rattle.std.proofs.Common.{sym, ◌∙◌}
-use Rattle.bd_engine.proofs.Keeping.{full_at_length}
-use Rattle.bd_engine.proofs.wide.WideEngine.attempt.Goals as goal
-
-pub returns-then-is_full-clause-full : goal.returns-then-is_full-clause-full
-returns-then-is_full-clause-full c = full_at_length _ _ _ (sym c.is_full.ensures ∙ c.if-is_full.true)
