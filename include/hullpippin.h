@@ -27,8 +27,8 @@
  * The library can't see the following, which is yours to keep. If you don't, nothing is promised:
  *
  *  - Each handle is empty when you make it: HULLPIPPIN_NO_DRIVER, HULLPIPPIN_NO_SEAT, HULLPIPPIN_NO_LIVE, HULLPIPPIN_NO_TICKETS,
- *    HULLPIPPIN_NO_RINGS, HULLPIPPIN_NO_SENDINGS, or all zeros, as a static one is. From then on it has what a function of this header left there. You don't copy it, and neither read nor
- *    change its pointer.
+ *    HULLPIPPIN_NO_RINGS, HULLPIPPIN_NO_SENDINGS, or all zeros, as a static one is. From then on it has what a function of this
+ *    header left there. You don't copy it, and neither read nor change its pointer.
  *  - No pointer is wild: each leads to what it says, of the size that you tell. NULL is wild, but for (NULL, 0), which are no
  *    bytes or no numbers: so no handle is at NULL, nor an answer or a size that a call fills.
  *  - You make at most one call at a time with a handle. A handle may go to another thread, by whatever orders the
@@ -554,9 +554,9 @@ bool hullpippin_live_reached(hullpippin_live *live, size_t index, hullpippin_tod
  *         .. wake signal.seat, where the signal is HULLPIPPIN_SIGNAL_READ and `wakes`, with what was read for it ..
  *     } while (signal.is_left);
  *
- * Proved is that nobody is forgotten: whoever waits in a read has nothing to read, or is still to be looked at; where settle says that
- * nobody is left, nobody who waits has, but for a completion alone that is left (HULLPIPPIN_LEAVES). And nobody is woken twice, or for nothing. A bridge asks the engine itself whom its steps
- * have reached: hullpippin_live_ask_reached has nothing to tell then.
+ * It is proved that nobody is forgotten: whoever waits in a read has nothing to read, or settle has still to look there. If settle says
+ * that nobody is left, then nobody who waits has anything to read, but for a completion alone (HULLPIPPIN_LEAVES). Nobody is woken
+ * twice, or for nothing. A bridge itself asks the engine whom its steps have reached, so hullpippin_live_ask_reached has nothing to tell.
  *
  * A thread that waits makes no open or attach: that is WAITING. Whoever ends it has it stop waiting too.
  */

@@ -314,6 +314,15 @@ def keep(results, wall):
         json.dump(about, file, indent=1)
 
 
+def last():
+    """What the last whole check came to. Ends where none is known."""
+    try:
+        with open(LAST, encoding="utf-8") as file:
+            return json.load(file)
+    except OSError:
+        sys.exit(f"{os.path.basename(sys.argv[0])}: no whole ./check is known to have run here")
+
+
 def replaced(name, pattern, text):
     """Puts a text in the one place of a document that a pattern finds."""
     with open(f"{ROOT}/{name}", encoding="utf-8") as file:
@@ -338,8 +347,7 @@ def told(about):
 
 def write():
     """Puts what the last whole check came to, and its kit, into README.md and docs/CHECKS.md, and its table into docs/FIGURES.md."""
-    with open(LAST, encoding="utf-8") as file:
-        about = json.load(file)
+    about = last()
     counts, took, table = told(about)
     whose, marks = f"`./check` of commit {about['commit'][:8]}, {about['date']}", re.compile(r"<!-- check -->\n.*?<!-- /check -->", re.S)
     for name, lines in (("docs/CHECKS.md", [f"{whose}: {counts}, in {took}. [Each part](FIGURES.md#the-last-whole-check)."]),
@@ -359,6 +367,7 @@ def arguments(names):
 
 
 def main():
+    sys.argv[0] = "check"  # (by which whoever started it knows it)
     parts = whole(bool(os.environ.get("RT_ANEW")))
     given = arguments([it.name for it in parts])
     if given.list:

@@ -15,20 +15,20 @@ use clap::{Args, Parser, Subcommand, ValueEnum};
 #[derive(Parser)]
 #[command(name = "hullpippin", version, max_term_width = 100)]
 pub struct Arguments {
-    /// Colours: by themselves where a person looks, and never where NO_COLOR is set
+    /// When to use colours: auto does so on a terminal, unless NO_COLOR is set
     #[arg(long, global = true, value_enum, default_value = "auto", value_name = "WHEN")]
     pub color: When,
-    /// Prints to the terminal itself, without HULLPIPPIN_PAGER, PAGER or less
+    /// Starts no pager on a terminal (HULLPIPPIN_PAGER, PAGER or less)
     #[arg(long, global = true)]
     pub no_pager: bool,
-    /// Tells on one line of standard error how far a journal is read; then there is no pager
+    /// Tells on standard error how far a journal is read, and starts no pager
     #[arg(long, global = true)]
     pub progress: bool,
-    /// Calls methods by their names, from the .aidl files of this folder, which have to be those of the very build
+    /// Names methods by the .aidl files in this folder, which must be those of the very build
     #[arg(long, global = true, value_name = "FOLDER")]
     pub aidl: Option<std::path::PathBuf>,
-    /// Of a kernel: calls services by their names, from what a device prints (`service list`, `dumpsys --pid`), its state or bug report,
-    /// or a recording; may be given again
+    /// Names a kernel's services by what a device prints (`service list`, `dumpsys --pid`), by its state or bug report, or by a
+    /// recording; repeat it for more
     #[arg(long, global = true, value_name = "FILE")]
     pub names: Vec<String>,
     #[command(subcommand)]
@@ -68,13 +68,13 @@ pub enum Format {
 pub enum Word {
     /// Prints entries, in the header's words, with their parcels
     Show(Show),
-    /// Tells why an entry was answered so, or what a name means: X6, BadObject, BR_FAILED_REPLY
+    /// Tells why an entry got its answer, or what a name means: X6, BadObject, BR_FAILED_REPLY
     Explain(Explain),
-    /// Prints what each process has, at the end or at another place: handles, objects, buffers, what is unread
+    /// Prints what each process has at the end, or at another place: handles, objects, buffers, what is unread
     State(State),
-    /// Prints all that holds an object
+    /// Prints everything that holds an object
     Holders(Holders),
-    /// Prints buffers that were read and never freed, references asked for again and again, and what grows
+    /// Prints buffers that nobody frees, references that somebody asks for again and again, and what grows
     Leaks(Leaks),
     /// Prints the calls of a recording or of a kernel's trace, a line each
     Calls(Called),
@@ -86,9 +86,9 @@ pub enum Word {
     Export(Export),
     /// Draws a recording: as one page of HTML with search, zoom and hiding, as a picture, for Mermaid, or for a terminal
     Diagram(Diagram),
-    /// Tells calls as they end, a line each: of a program that it runs, of a daemon, or with --kernel of Linux's own driver
+    /// Prints each call as it ends, in a line: of a program that it runs, of a daemon, or with --kernel of Linux's own driver
     Trace(Trace),
-    /// Shows who calls whom how often, and how long that takes: in a daemon that runs, or with --kernel in Linux's own driver
+    /// Shows who calls whom, how often, and how long that takes: in a daemon that runs, or with --kernel in Linux's own driver
     #[cfg(feature = "top")]
     Top(Top),
     /// Ends a kernel's tracing once who has begun it has ended
@@ -99,17 +99,17 @@ pub enum Word {
     },
     /// Turns a script with names into one for the player, or plays it
     Script(Script),
-    /// Plays a script with names as one types it, and shows what comes of each line
+    /// Plays a script with names while you type it, and shows what comes of each line
     #[cfg(feature = "repl")]
     Repl {
         /// The player
         #[arg(long, value_name = "BPLAY", default_value = "bplay")]
         run: String,
-        /// How often a line that waits looks before the run gives it up
+        /// How often a line that waits may look before the run gives it up
         #[arg(long, value_name = "N", default_value_t = TURNS)]
         turns: u32,
     },
-    /// Runs a program, and keeps what it and all that it starts ask of Binder devices
+    /// Runs a program, and records what it and all that it starts ask of Binder devices
     Record(Record),
     /// Judges a recording of a real driver by the rules: whether some order of its threads' steps explains all answers
     Judge(Judge),
@@ -123,7 +123,7 @@ pub enum Word {
         #[arg(value_enum)]
         shell: clap_complete::Shell,
     },
-    /// Lays an index beside a journal, JOURNAL.index, by which --from and --at begin near their place
+    /// Writes JOURNAL.index beside a journal, by which --from and --at start near their place
     Index {
         /// A journal
         #[arg(value_name = "JOURNAL")]
@@ -153,7 +153,7 @@ impl Word {
 
 /// How many steps `judge` tries.
 pub const TRIES: u64 = 1_500_000;
-/// How often a line that waits looks before it is given up.
+/// How often a line that waits may look before it is given up.
 const TURNS: u32 = 1000;
 
 #[derive(Args)]
@@ -180,13 +180,13 @@ pub struct Judge {
     /// Writes the order there as a journal, with times and names beside it
     #[arg(long, value_name = "OUT")]
     pub journal: Option<String>,
-    /// In which of docs/DIFFERENCES.md the driver may do otherwise, with commas between them; else `judge` finds that out
+    /// The differences of docs/DIFFERENCES.md that the driver may show, with commas between them; else `judge` finds them
     #[arg(long, value_name = "NAMES")]
     pub ways: Option<String>,
     /// How many steps to try before it gives up
     #[arg(long, value_name = "N", default_value_t = TRIES)]
     pub tries: u64,
-    /// .. and after how many seconds of a processor, with as many more for each 10,000 steps [default: 5]
+    /// .. and how many seconds of a processor, with as many more for each 10,000 steps [default: 5]
     #[arg(long, value_name = "S")]
     pub seconds: Option<f64>,
     /// If it finds no order: of how many threads to tell what they would have to do next
@@ -199,10 +199,10 @@ pub struct Rules {
     /// A script as the player takes it, perhaps with reads that wait (`wait LIMIT`); - for standard input
     #[arg(value_name = "SCRIPT")]
     pub file: String,
-    /// In which of docs/DIFFERENCES.md it goes Linux's way, with commas between them
+    /// The differences of docs/DIFFERENCES.md in which it goes Linux's way, with commas between them
     #[arg(long, value_name = "NAMES", default_value = "")]
     pub ways: String,
-    /// As the player prints it, or for each line at once a value of JSON, for a program that writes the next one by it
+    /// Text as the player prints it, or a value of JSON for each line at once, for a program that chooses the next one by it
     #[arg(long, value_enum, default_value = "text")]
     pub format: Format,
 }
@@ -212,19 +212,19 @@ pub struct Script {
     /// A script with names, or - for standard input
     #[arg(value_name = "FILE")]
     pub file: String,
-    /// Plays it with this player, and says whether what it expects holds
+    /// Plays it with this player, and tells whether its expectations hold
     #[arg(long, value_name = "BPLAY")]
     pub run: Option<String>,
-    /// How often a line that waits looks before the run gives it up
+    /// How often a line that waits may look before the run gives it up
     #[arg(long, value_name = "N", default_value_t = TURNS, requires = "run")]
     pub turns: u32,
     /// Writes the journal of the run there, - for standard output
     #[arg(long, value_name = "OUT", requires = "run")]
     pub journal: Option<String>,
-    /// What to tell of a run: whether what it expects holds, or what each line said as a value of JSON
+    /// What to tell of a run: whether its expectations hold, or what each line said, as a value of JSON
     #[arg(long, value_enum, default_value = "text", requires = "run")]
     pub format: Format,
-    /// Writes the script that it comes to there, - for standard output
+    /// Writes the player's script there, - for standard output
     #[arg(long, value_name = "OUT")]
     pub emit: Option<String>,
 }
@@ -244,7 +244,7 @@ pub struct Show {
     /// Has libhullpippin say whether entries follow from those before them, and what the rules give where one doesn't
     #[arg(long)]
     pub judge: bool,
-    /// Also the steps of the daemon's own, by which processes begin and end, in its recordings
+    /// Also shows the daemon's own steps, by which processes begin and end in its recordings
     #[arg(long)]
     pub own: bool,
     /// Waits for further entries at the end, as `tail -f` does
@@ -276,16 +276,16 @@ pub struct State {
     /// A journal, or - for standard input
     #[arg(value_name = "JOURNAL", required_unless_present = "daemon")]
     pub journal: Option<String>,
-    /// After so many entries, or those before a time, in place of all
+    /// Looks after so many entries, or at this time, in place of the end
     #[arg(long, value_name = "PLACE|TIME")]
     pub at: Option<Spot>,
-    /// What differs between two places or times; of a kernel's state, in a later file
+    /// Tells what differs between two places or times; of a kernel's state, between it and a later file
     #[arg(long, value_name = "PLACE|TIME|FILE", num_args = 1..=2, conflicts_with_all = ["at", "format"])]
     pub diff: Vec<String>,
     /// Text for people, or a value of JSON a line
     #[arg(long, value_enum, default_value = "text")]
     pub format: Format,
-    /// Of a daemon that runs, now
+    /// Looks at a daemon that runs, now
     #[arg(long, conflicts_with_all = ["journal", "at", "diff"])]
     pub daemon: bool,
     /// The daemon's socket; else HULLPIPPIN_SOCKET, or where the daemon of this user or of the system is
@@ -304,7 +304,7 @@ pub struct Holders {
     /// The object, as `state` prints it
     #[arg(value_name = "PLACE.INDEX|NODE", value_parser = crate::kernel::object)]
     pub object: ObjectId,
-    /// After so many entries, or those before a time, in place of all
+    /// Looks after so many entries, or at this time, in place of the end
     #[arg(long, value_name = "PLACE|TIME")]
     pub at: Option<Spot>,
 }
@@ -317,7 +317,7 @@ pub struct Leaks {
     /// A later state of the same kernel
     #[arg(value_name = "LATER")]
     pub later: Option<String>,
-    /// After so many entries, or those before a time, in place of all
+    /// Looks after so many entries, or at this time, in place of the end
     #[arg(long, value_name = "PLACE|TIME")]
     pub at: Option<Spot>,
     /// How many to print of each kind

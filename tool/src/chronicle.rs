@@ -10,6 +10,7 @@ use crate::times::duration_words;
 use crate::told::{Ending, Subject, Told, Unread, Wanted};
 use crate::who::{Comms, Person, NOT_RECORDED};
 use anyhow::Result;
+use std::cell::Cell;
 use std::collections::HashMap;
 use std::rc::Rc;
 
@@ -55,8 +56,10 @@ struct End<'a> {
 }
 
 pub struct Chronicle<'a> {
-    pub wanted: &'a Wanted,
-    pub palette: Palette,
+    wanted: &'a Wanted,
+    palette: Palette,
+    /// How many lines there were.
+    lines: Cell<u64>,
 }
 
 /// As `sensors(812/815)`; without a name `pid 812 seat 3`; without its process's pid `sensors(-/815)`; who wasn't recorded has no numbers.
@@ -114,6 +117,12 @@ fn when(doing: Doing) -> String {
     doing.time.map_or_else(|| doing.place.to_string(), |it| it.of_day())
 }
 
+impl<'a> Chronicle<'a> {
+    pub fn new(wanted: &'a Wanted, palette: Palette) -> Self {
+        Chronicle { wanted, palette, lines: Cell::new(0) }
+    }
+}
+
 impl Chronicle<'_> {
     fn told(&self, end: End<'_>, objects: &dyn Objects, people: &dyn People) -> Told {
         let call = end.call;
@@ -151,7 +160,7 @@ impl Chronicle<'_> {
             has_failed: matches!(end.ending, Ending::Failed | Ending::Refused(_)) || is_refused(call),
         };
         if self.wanted.has(&subject) {
-            to.extend(self.told(end, objects, people).line(&self.palette).into_bytes());
+            self.add(self.told(end, objects, people).line(&self.palette), to);
         }
     }
 
@@ -175,9 +184,16 @@ impl Chronicle<'_> {
         if self.wanted.code.is_none() && self.wanted.has(&subject) {
             let Palette { place, name, refused, plain, .. } = &self.palette;
             let (when, who) = (when(doing), thread_words(doing, people));
-            let line = format!("{place}{when}{plain} {name}{who}{plain} -> nobody = {refused}{}{plain}\n", why.words());
-            to.extend(line.into_bytes());
+            self.add(
+                format!("{place}{when}{plain} {name}{who}{plain} -> nobody = {refused}{}{plain}\n", why.words()),
+                to,
+            );
         }
+    }
+
+    fn add(&self, line: String, to: &mut Vec<u8>) {
+        self.lines.set(self.lines.get() + 1);
+        to.extend(line.into_bytes());
     }
 }
 
@@ -198,9 +214,9 @@ impl Chronicle<'_> {
     }
 }
 
-/// Prints the calls of a journal as they end, and then those that are open.
-pub fn put_journal(player: &mut Player, range: Range, wanted: &Wanted, palette: Palette, out: &mut Out) -> Result<()> {
-    let chronicle = Chronicle { wanted, palette };
+/// Prints the calls of a journal as they end, and then those that are open; how many there were.
+pub fn put_journal(player: &mut Player, range: Range, wanted: &Wanted, palette: Palette, out: &mut Out) -> Result<u64> {
+    let chronicle = Chronicle::new(wanted, palette);
     let (mut calls, mut sitting) = (Calls::default(), Sitting::default());
     player.each(range, |entry, space, facts| {
         sitting.comms.learn(facts);
@@ -215,12 +231,12 @@ pub fn put_journal(player: &mut Player, range: Range, wanted: &Wanted, palette: 
     left.sort_by_key(|it| it.made.place);
     let open = |call| End { ending: Ending::Open, ended: None, call };
     left.iter().for_each(|it| chronicle.put(open(it), &player.space, &sitting, &mut out.held));
-    Ok(())
+    Ok(chronicle.lines.get())
 }
 
 /// Prints the calls of a kernel's trace so.
-pub fn put_trace(trace: &mut Trace, range: Range, wanted: &Wanted, palette: Palette, out: &mut Out) -> Result<()> {
-    let chronicle = Chronicle { wanted, palette };
+pub fn put_trace(trace: &mut Trace, range: Range, wanted: &Wanted, palette: Palette, out: &mut Out) -> Result<u64> {
+    let chronicle = Chronicle::new(wanted, palette);
     let done = trace.each(range, |seen, following| match seen {
         Seen::Event(event) => {
             chronicle.told_by(event, following, &mut out.held);
@@ -229,5 +245,5 @@ pub fn put_trace(trace: &mut Trace, range: Range, wanted: &Wanted, palette: Pale
         _ => Ok(()),
     });
     chronicle.put_open(&trace.reader.following, &mut out.held);
-    done
+    done.map(|()| chronicle.lines.get())
 }

@@ -18,7 +18,7 @@ fn lines(bytes: &[u8]) -> Lines<'_> {
 /// All lines of a trace, and those of its calls.
 fn trace(bytes: &[u8]) {
     let wanted = Wanted::default();
-    let chronicle = Chronicle { wanted: &wanted, palette: Palette::default() };
+    let chronicle = Chronicle::new(&wanted, Palette::default());
     let (mut reader, mut told) = (Reader::default(), Vec::new());
     let mut tell = |seen: Seen<'_>, following: &_| {
         if let Seen::Event(event) = seen {

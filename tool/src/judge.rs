@@ -71,8 +71,8 @@ impl Functions {
     fn load() -> Result<Functions> {
         let name = library_name();
         // SAFETY: nothing is done when it is opened; it is a library of C without an initializer.
-        let library =
-            unsafe { Library::new(&name) }.context("no library that judges, which HULLPIPPIN_LIBRARY may name")?;
+        let library = unsafe { Library::new(&name) }
+            .context("no library that judges, which tools/install brings or HULLPIPPIN_LIBRARY names")?;
         macro_rules! found {
             ($function:literal) => {
                 // SAFETY: the function is of that type in the header, whose version is looked at below.

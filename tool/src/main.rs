@@ -214,11 +214,21 @@ fn calls(given: &Called, palette: Palette, out: &mut Out) -> Result<()> {
             return look.put_log(&mut out.held);
         }
         if let Some(mut trace) = kernel::trace_of(&given.journal)? {
-            return chronicle::put_trace(&mut trace, given.range, &given.wanted, palette, out);
+            let lines = chronicle::put_trace(&mut trace, given.range, &given.wanted, palette, out)?;
+            return check_any(given, lines);
         }
     }
     let mut player = Player::open(&given.journal, false)?;
-    chronicle::put_journal(&mut player, given.range, &given.wanted, palette, out)
+    let lines = chronicle::put_journal(&mut player, given.range, &given.wanted, palette, out)?;
+    check_any(given, lines)
+}
+
+/// Says that there was no call, where some were chosen.
+fn check_any(given: &Called, lines: u64) -> Result<()> {
+    if lines == 0 && given.wanted.is_any() {
+        bail!("{}: no call is as chosen", play::name(&given.journal));
+    }
+    Ok(())
 }
 
 /// `trace` of a file: its calls.

@@ -287,8 +287,11 @@ impl Player {
     pub fn ended(&self, range: Range) -> Result<()> {
         let (path, count) = (name(&self.path), self.source.place());
         if let End::CutOff { entries, at, rest } = self.source.end() {
-            let how = format!("{entries} entries are whole, and {rest} bytes from byte {at} on are of no whole entry");
-            eprintln!("hullpippin: {path}: cut off, or still being written: {how}");
+            let part = match rest {
+                0 => String::new(),
+                _ => format!(", and {rest} bytes from byte {at} on are of no whole entry"),
+            };
+            eprintln!("hullpippin: {path}: cut off, or still being written: {entries} entries are whole{part}");
         }
         let places = [Some(range.from), range.to];
         if let Some(place) = places.into_iter().flatten().find(|it| *it > count) {

@@ -42,6 +42,12 @@ fn is_meant(interface: &str, word: &str) -> bool {
 }
 
 impl Wanted {
+    /// Whether it leaves anything out.
+    pub fn is_any(&self) -> bool {
+        let lists = !self.pid.is_empty() || !self.comm.is_empty() || !self.interface.is_empty();
+        lists || self.code.is_some() || self.failed
+    }
+
     pub fn has(&self, it: &Subject<'_>) -> bool {
         (self.pid.is_empty() || it.pids.iter().any(|pid| self.pid.contains(pid)))
             && (self.comm.is_empty() || it.comms.iter().any(|comm| self.comm.iter().any(|word| word == comm)))

@@ -348,7 +348,8 @@ fn a_recording_is_told_by_its_calls() {
     for words in
         [&["--interface", "IServiceManage"][..], &["--comm", "other"], &["--code", "4"], &["--pid", "7"], &["--failed"]]
     {
-        assert_eq!(printed(&[&["calls", recorded.path()][..], words].concat()), "", "{words:?}");
+        let said = fault(&[&["calls", recorded.path()][..], words].concat());
+        assert!(said.ends_with("no call is as chosen\n"), "{words:?}: {said}");
     }
     let bare = Journal::registered().file("bare-calls");
     assert_eq!(

@@ -16,7 +16,7 @@ const PAUSE: Duration = Duration::from_millis(20);
 pub fn trace(given: &Trace, palette: Palette) -> Result<()> {
     let mut to = output(given)?;
     let palette = if given.output.is_some() { Palette::default() } else { palette };
-    let chronicle = Chronicle { wanted: &given.wanted, palette };
+    let chronicle = Chronicle::new(&given.wanted, palette);
     let mut live = Live::begin()?;
     let mut lines = Vec::new();
     loop {

@@ -40,16 +40,16 @@ const PAUSE: Duration = Duration::from_millis(50);
 pub struct Top {
     #[command(flatten)]
     pub place: Where,
-    /// How many seconds are told of together
+    /// How many seconds each screen sums up
     #[arg(long, value_name = "SECONDS", default_value_t = 1.0, value_parser = seconds)]
     pub interval: f64,
     /// Prints one screen as text, and ends
     #[arg(long)]
     pub once: bool,
-    /// Of this machine's own kernel, by its tracepoints, which needs root
+    /// Looks at this machine's own kernel, by its tracepoints, as root
     #[arg(long, conflicts_with_all = ["socket", "device", "file"])]
     pub kernel: bool,
-    /// One screen of all of a kernel's trace
+    /// Prints one screen of a kernel's whole trace
     #[arg(long, value_name = "FILE", conflicts_with_all = ["socket", "device", "interval", "once"])]
     pub file: Option<String>,
 }

@@ -26,22 +26,22 @@ pub struct Trace {
     pub place: Where,
     #[command(flatten)]
     pub wanted: Wanted,
-    /// Of this machine's own kernel, by its tracepoints, as root, until you interrupt it
+    /// Traces this machine's own kernel, by its tracepoints, as root, until you interrupt it
     #[arg(long, conflicts_with_all = ["program", "socket", "device", "past", "once", "file"])]
     pub kernel: bool,
-    /// Of a recording or a kernel's trace, as `calls` tells them
+    /// Reads a recording or a kernel's trace, as `calls` does
     #[arg(long, value_name = "FILE", conflicts_with_all = ["program", "socket", "device", "past", "once", "output"])]
     pub file: Option<String>,
-    /// Also what the daemon still has of before
+    /// Also prints the calls before now that the daemon still has
     #[arg(long)]
     pub past: bool,
-    /// Ends with what there is, and waits for nothing
+    /// Prints what there is, and ends without waiting
     #[arg(long, conflicts_with = "program")]
     pub once: bool,
-    /// Writes the lines there; else to standard output, or with a program to standard error
+    /// Writes the lines to this file; else to standard output, or with a program to standard error
     #[arg(long, short, value_name = "FILE")]
     pub output: Option<String>,
-    /// A program and its words, which hullpippin-run runs; without one it tells all calls of the device
+    /// A program and its words, which hullpippin-run runs; without one, trace prints all calls of the device
     #[arg(value_name = "PROGRAM", trailing_var_arg = true, allow_hyphen_values = true)]
     pub program: Vec<String>,
 }
