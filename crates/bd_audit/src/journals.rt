@@ -5,9 +5,9 @@ ghost use Rattle.bd_engine.specs.Refusals.{IsLiveSeats};
 ghost use Rattle.bd_space.specs.Histories.{history_of};
 ghost use Rattle.bd_spelling.specs.Reading.{Fails};
 ghost use Rattle.bd_journal.specs.Cut.{IsUncut, IsUnread};
-ghost use Rattle.bd_journal.specs.Steps.{entries_left, seats_of, whole_left};
+ghost use Rattle.bd_journal.specs.Steps.{count_left, entries_left, seats_of, whole_left};
 ghost use Rattle.bd_spelling.specs.declared.fault.ReadError.TheVariants.{Memory};
-ghost use Rattle.bd_audit.specs.{Judging.{HasJudged}, Journals.{HasSeenAll, HasSeenWhole, JudgesCut, JudgesJournal}};
+ghost use Rattle.bd_audit.specs.{Judging.{HasHeard, HasHeardAll, HasJudged}, Journals.{HasSeenAll, HasSeenWhole, JudgesCut, JudgesJournal}};
 
 use crate::judge::Judge;
 use crate::judging::Watch;
@@ -43,6 +43,7 @@ fn show_all<W: Watch>(
     watch: &mut W,
 ) -> Result<(), ReadError>
     ensures seen { IfOk result (λ _. HasSeenAll judge.old judge.new (entries_left reader.old)) }
+    ensures heard { IfOk result (λ _. HasHeardAll W.heard watch.new (count_left reader.old)) }
     ensures error { IfErr result (λ e. Fails e (entries_left reader.old)) }
 {
     let all = reader.left();
@@ -72,6 +73,8 @@ pub fn judge_journal<W: Watch>(
 ) -> Result<Judgment, ReadError>
     // What is told is so of the record that the bytes spell.
     ensures judgment { IfOk result (JudgesJournal bytes.now) }
+    // Whoever watches has heard in the end that all are done.
+    ensures heard { IfOk result (λ j. HasHeardAll W.heard watch.new j.entries) }
     // Where nothing is told, that is why.
     ensures fault { IfErr result (IsUnread bytes.now) }
 {
@@ -101,6 +104,7 @@ fn show_whole<W: Watch>(
     watch: &mut W,
 ) -> Result<(usize, usize), ReadError>
     ensures seen { IfOk result (λ x. HasSeenWhole judge.old judge.new (whole_left reader.old) x.0 x.1) }
+    ensures heard { IfOk result (λ x. HasHeard W.heard watch.new x.0) }
     ensures error { IfErr result (λ e. e ≡ Memory) }
 {
     let all = reader.bytes_left();
@@ -131,6 +135,7 @@ pub fn judge_cut<W: Watch>(
     watch: &mut W,
 ) -> Result<(Judgment, usize), ReadError>
     ensures judgment { IfOk result (λ x. JudgesCut bytes.now x.0 x.1) }
+    ensures heard { IfOk result (λ x. HasHeard W.heard watch.new x.0.entries) }
     ensures fault { IfErr result (IsUncut bytes.now) }
 {
     let mut reader = match JournalReader::new(bytes) {

@@ -1,12 +1,12 @@
 //! Whether a record is a history.
 
-ghost use Rattle.std.specs.Prelude.{◌≡◌, ◌<◌, ◌≤◌, true, false, length, IfOk, IfErr, OnErr, MatchResult};
+ghost use Rattle.std.specs.Prelude.{◌≡◌, ◌<◌, ◌≤◌, true, false, length, min, IfOk, IfErr, OnErr, MatchResult};
 ghost use Rattle.bd_engine.specs.{Follows.{Follows}, Refusals.{IsLiveSeats}};
 ghost use Rattle.bd_uapi.specs.declared.fault.Fault.TheVariants as faults;
 ghost use Rattle.bd_space.specs.Histories.{History, HasLivePlace, IsHistory, IsLawful};
 ghost use Rattle.bd_spelling.specs.Records.{history_in};
 ghost use Rattle.bd_audit.specs.Replays as spec;
-ghost use Rattle.bd_audit.specs.Judging.{IsStop};
+ghost use Rattle.bd_audit.specs.Judging.{HasHeardAll, IsStop};
 ghost use Rattle.bd_audit.specs.Replays.{with_entry, beginning, Begins, IfUnlawful, IfNoMemory, StopsAt};
 
 use crate::answers::is_same_answer;
@@ -93,10 +93,16 @@ pub(crate) fn accept_live(live: &mut Live, entry: &Entry) -> Result<bool, AllocE
 
 /// Is told how far a judgment is, for whoever waits for a long one.
 pub trait Watch {
+    ghost use Rattle.std.specs.Prelude.{◌≤◌, ℕ};
+
+    /// It was told last that so much of all is done.
+    ghost heard: { Self → ℕ → ℕ → Type 0 };
+
     /// So much of all is done: so many entries, or bytes where nobody knows how many entries are to come.
     fn follow(&mut self, done: usize, all: usize)
         // Nobody is told of more than all.
-        requires { done ≤ all };
+        requires { done ≤ all }
+        ensures { heard self.new done all };
 }
 
 /// A watch that does nothing, for whoever needn't know how far a judgment is.
@@ -104,6 +110,8 @@ pub trait Watch {
 pub struct Unwatched;
 
 impl Watch for Unwatched {
+    ghost heard = { λ _ _ _. Unit {0} };
+
     fn follow(&mut self, _done: usize, _all: usize) {}
 }
 
@@ -116,7 +124,8 @@ fn first_unlawful<W: Watch>(
 ) -> Result<Option<u64>, Fault>
     requires seats { IsLiveSeats «record».now.seats }
     requires inside { count ≤ length «record».now.entries }
-    ensures { MatchResult result (IsStop (beginning count (history_in «record».now))) (λ f. f ≡ faults.NoMemory) }
+    ensures stop { MatchResult result (IsStop (beginning count (history_in «record».now))) (λ f. f ≡ faults.NoMemory) }
+    ensures heard { IfOk result (λ _. HasHeardAll W.heard watch.new count) }
 {
     let mut judge = Judge::new(alloc, record.seats)?;
     let mut entries = record.entries.reader();
@@ -151,6 +160,9 @@ pub fn replay_watched<W: Watch>(
     requires seats { IsLiveSeats «record».now.seats }
     ensures history { MatchResult result (λ _. IsHistory (history_in «record».now)) (λ f. IfUnlawful f (λ at. IsHistory (history_in «record».now) → ⊥)) }
     ensures first { IfErr result (λ f. IfUnlawful f (StopsAt (history_in «record».now))) }
+    // Whoever watches has heard in the end that all are done that have a place.
+    ensures heard { MatchResult result (λ _. HasHeardAll W.heard watch.new (min (length «record».now.entries) 4294967295))
+        (λ f. IfUnlawful f (λ _. HasHeardAll W.heard watch.new (min (length «record».now.entries) 4294967295))) }
 {
     let len = record.entries.len();
     // A history has places for so many.

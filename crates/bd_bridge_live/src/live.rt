@@ -1,6 +1,6 @@
 //! A live engine, and what it was told of its lists.
 
-ghost use Rattle.std.specs.Prelude.{ℕ, ◌≡◌, ◌⊎◌, Bool, Some, true, OnOk};
+ghost use Rattle.std.specs.Prelude.{ℕ, ◌≡◌, ◌⊎◌, Bool, Some, true, false, OnOk};
 ghost use Rattle.bd_space.specs.Histories.{History, space_after};
 ghost use Rattle.bd_engine.specs.Follows as engine;
 ghost use Rattle.bd_engine.specs.Reached.{Recalls, has_work};
@@ -101,7 +101,8 @@ impl LiveEngine {
 
     // Whether a seat's thread is in a call, and in none that it serves inside of that.
     fn is_in_call(&self, seat: u32) -> bool
-        ensures { result ≡ true → (h : History) → engine.Follows self.now.live h → IsInCall (space_after h) seat }
+        ensures yes { result ≡ true → (h : History) → engine.Follows self.now.live h → IsInCall (space_after h) seat }
+        ensures no { result ≡ false → (h : History) → engine.Follows self.now.live h → IsInCall (space_after h) seat → ⊥ }
     {
         match self.live.innermost(seat) {
             Some((_, serves)) => !serves,
@@ -111,7 +112,8 @@ impl LiveEngine {
 
     // Whether the completion of a call is all that is on the own list of a seat's thread.
     fn has_completion_alone(&self, seat: u32) -> bool
-        ensures { result ≡ true → (h : History) → engine.Follows self.now.live h → HasCompletionAlone (space_after h) seat }
+        ensures yes { result ≡ true → (h : History) → engine.Follows self.now.live h → HasCompletionAlone (space_after h) seat }
+        ensures no { result ≡ false → (h : History) → engine.Follows self.now.live h → HasCompletionAlone (space_after h) seat → ⊥ }
     {
         is_completion_alone(self.live.unread(TodoList::OfThread(seat)))
     }

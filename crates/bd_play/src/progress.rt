@@ -84,6 +84,8 @@ impl<'a, H: Clock + Eprint> Progress<'a, H> {
 }
 
 impl<H: Clock + Eprint> Watch for Progress<'_, H> {
+    ghost heard = { λ _ _ _. Unit {0} };
+
     fn follow(&mut self, entries: usize, all: usize) {
         self.reach(entries as u64, all as u64);
     }

@@ -1,5 +1,8 @@
 -- Lines played: what each does to its seat, and a sink that takes what they say.
-use Rattle.std.specs.Prelude.{◌≡◌, ◌⊎◌, ⊤, ℕ, ◌<◌, ◌≤◌, Bool, true, false, List, [], ◌∷◌, ◌++◌, length, get_or, set}
+use Rattle.std.specs.Prelude.{◌≡◌, ◌⊎◌, ⊤, ℕ, ◌<◌, ◌≤◌, Bool, true, false, List, [], ◌∷◌, ◌++◌, length, get_or, set, Option, IfSome, Err}
+use Rattle.bd_script.specs.Scripts.{script_of}
+use Rattle.bd_player.specs.declared.faults.ProgramFault.{ProgramFault}
+use Rattle.bd_player.specs.declared.faults.ProgramFault.TheVariants.{Line as Bad-Line}
 use Rattle.std.specs.List.{FoldsTo}
 use Rattle.bd_driver.specs.Rest.{is_waiting}
 use Rattle.bd_driver.specs.States.{SeatState}
@@ -67,3 +70,8 @@ pub record Plays {S : Type 0} (seats turns : ℕ) (takes : S → ℕ → Said �
   pub all : lines ≡ run ++ rest
   pub runs : FoldsTo (Runs seats turns takes full) (playing old [] s) run (playing new told t)
   pub ends : GoesOn full (playing new told t) → rest ≡ []
+
+-- Where the fault is that a line is bad, and the bytes are known, it is their first bad line.
+abbrev pub SaysBadLine : Option (List ℕ) → ProgramFault → Type 0
+SaysBadLine known (Bad-Line number reason) = IfSome known (λ bytes. script_of bytes ≡ Err number)
+SaysBadLine known fault = ⊤

@@ -1,6 +1,6 @@
 //! Certificates of a history: how a process came to a name, which call a reply answers, the turns of an object.
 
-ghost use Rattle.std.specs.{Prelude.{◌≡◌, Some, length, IfOk, IfSome, MatchOption, is_some}, List.{slice_get}};
+ghost use Rattle.std.specs.{Prelude.{◌≡◌, ◌≢◌, ◌≤◌, Some, length, IfErr, IfOk, IfSome, MatchOption, is_some}, List.{slice_get}};
 ghost use Rattle.bd_engine.specs.Refusals.{IsLiveSeats};
 ghost use Rattle.bd_space.specs.Histories.{IsHistory, space_after};
 ghost use Rattle.bd_spelling.specs.Records.{history_in};
@@ -8,6 +8,7 @@ ghost use Rattle.bd_engine.specs.Looks as looks;
 ghost use Rattle.bd_audit.specs.{CallOf.{IsAnswerOf}, Gifts.{IsChainOf}, Replays.{with_entry}, Replies.{call_answered}};
 ghost use Rattle.bd_audit.specs.TurnCalls.{AreTurns};
 ghost use Rattle.bd_player.specs.Certified.{AreChainOf, AreGiftsAt, IsMadeBy, Rise, named_by, turn_told};
+ghost use Rattle.bd_player.specs.declared.untold.Untold.TheVariants.{OutOfRange};
 
 use crate::entries::entry_at;
 use crate::pids::{owner_of, pid_of, receiver_of};
@@ -33,6 +34,7 @@ pub(crate) fn chain_of(
     requires lawful { IsHistory (history_in «record».now) }
     ensures chain { IfOk result (λ c. IfSome c (λ v. IsChainOf (history_in «record».now) pid number v.items)) }
     ensures none { IfOk result (λ c. is_some c ≡ is_some (looks.named_by (space_after (history_in «record».now)) pid number)) }
+    ensures range { IfErr result (λ u. u ≢ OutOfRange) }
 {
     Ok(gift_chain(alloc, record, pid, number)?)
 }
@@ -43,6 +45,7 @@ pub(crate) fn answered_by(alloc: Global, record: &Record, place: u32) -> Result<
     requires lawful { IsHistory (history_in «record».now) }
     ensures answers { IfOk result (IsAnswerOf (history_in «record».now) place) }
     ensures found { IfOk result (λ found. found ≡ call_answered (history_in «record».now) place) }
+    ensures range { IfErr result (λ u. u ≢ OutOfRange) }
 {
     Ok(call_of_reply(alloc, record, place)?)
 }
@@ -55,7 +58,8 @@ pub(crate) fn turns_on(
 ) -> Result<Vec<Turn>, Untold>
     requires seats { IsLiveSeats «record».now.seats }
     requires lawful { IsHistory (history_in «record».now) }
-    ensures { IfOk result (λ v. AreTurns «record».now.entries object v.items) }
+    ensures turns { IfOk result (λ v. AreTurns «record».now.entries object v.items) }
+    ensures range { IfErr result (λ u. u ≢ OutOfRange) }
 {
     Ok(oneway_turns(alloc, record, object)?)
 }
@@ -122,6 +126,7 @@ fn gift_made(
     ensures asked { IfOk result (λ g. MatchOption g (asked ≡ Some (length engine.old.entries) → ⊥)
         (λ _. asked ≡ Some (length engine.old.entries))) }
     ensures gift { IfOk result (λ g. IfSome g (IsMadeBy engine.old entries.now entry.now)) }
+    ensures range { IfErr result (λ u. u ≢ OutOfRange) }
 {
     let place = engine.len();
     let pid = pid_of(engine, entries, entry.seat);
@@ -151,6 +156,7 @@ fn gifts_at(
     ensures engine { IfOk result (λ made. made.0 ≡ history_in «record».now) }
     ensures gifts { IfOk result (λ made. Rise 0 «record».now.entries places.now
         → AreGiftsAt (history_in «record».now) places.now made.1.items) }
+    ensures range { IfErr result (λ u. u ≢ OutOfRange) }
 {
     let copied = record.entries.copied(alloc)?;
     let entries = copied.as_slice();
@@ -178,6 +184,7 @@ fn gifts_of(
     requires lawful { IsHistory (history_in «record».now) }
     ensures engine { IfOk result (λ c. IfSome c (λ made. made.0 ≡ history_in «record».now)) }
     ensures gifts { IfOk result (λ c. IfSome c (λ made. AreChainOf (history_in «record».now) pid number made.1.items)) }
+    ensures range { IfErr result (λ u. u ≢ OutOfRange) }
     ensures none { IfOk result (λ c. is_some c ≡ is_some (looks.named_by (space_after (history_in «record».now)) pid number)) }
 {
     match chain_of(alloc, record, pid, number)? {
@@ -187,7 +194,9 @@ fn gifts_of(
 }
 
 // Prints gifts in their order, each on a line.
-fn print_gifts<W: Write>(gifts: &[Gift], out: &mut W) -> Result<(), Untold> {
+fn print_gifts<W: Write>(gifts: &[Gift], out: &mut W) -> Result<(), Untold>
+    ensures { IfErr result (λ u. u ≢ OutOfRange) }
+{
     for gift in gifts {
         writeln!(out, "{gift}")?;
     }
@@ -205,7 +214,8 @@ pub(crate) fn tell_chain<W: Write>(
 ) -> Result<bool, Untold>
     requires seats { IsLiveSeats «record».now.seats }
     requires lawful { IsHistory (history_in «record».now) }
-    ensures { IfOk result (λ b. b ≡ is_some (looks.named_by (space_after (history_in «record».now)) pid number)) }
+    ensures there { IfOk result (λ b. b ≡ is_some (looks.named_by (space_after (history_in «record».now)) pid number)) }
+    ensures range { IfErr result (λ u. u ≢ OutOfRange) }
 {
     let Some((engine, gifts)) = gifts_of(alloc, record, pid, number)? else {
         writeln!(out, "no such name")?;
@@ -228,11 +238,15 @@ pub(crate) fn tell_answered<W: Write>(
 ) -> Result<bool, Untold>
     requires seats { IsLiveSeats «record».now.seats }
     requires lawful { IsHistory (history_in «record».now) }
-    ensures { IfOk result (λ b. b ≡ is_some (call_answered (history_in «record».now) place)) }
+    ensures there { IfOk result (λ b. b ≡ is_some (call_answered (history_in «record».now) place)) }
+    ensures range { IfErr result (λ u. u ≡ OutOfRange → length «record».now.entries ≤ place) }
 {
     match answered_by(alloc, record, place)? {
         Some(call) => {
-            let made = entry_at(alloc, record, call)?;
+            let made = match entry_at(alloc, record, call) {
+                Ok(made) => made,
+                Err(why) => return Err(why),
+            };
             writeln!(out, "{made}")?;
             let reading = entry_at(alloc, record, place)?;
             writeln!(out, "{reading}")?;
@@ -287,6 +301,7 @@ pub(crate) fn tell_turns<W: Write>(
 ) -> Result<(), Untold>
     requires seats { IsLiveSeats «record».now.seats }
     requires lawful { IsHistory (history_in «record».now) }
+    ensures { IfErr result (λ u. u ≢ OutOfRange) }
 {
     let turns = turns_on(alloc, record, object)?;
     for turn in turns.as_slice() {

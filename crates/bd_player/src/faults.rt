@@ -1,6 +1,7 @@
 //! What the program ends with.
 
-ghost use Rattle.std.specs.Prelude.{◌≡◌, ◌≤◌, ◌⊎◌, MatchResult, max};
+ghost use Rattle.std.specs.Prelude.{◌≡◌, ◌≢◌, ◌≤◌, ◌⊎◌, MatchResult, max};
+ghost use Rattle.std.specs.IoError.{error_kind};
 ghost use Rattle.bd_player.specs.{Workers.{fault_status}, declared.faults.ProgramFault.TheVariants.{Memory}};
 
 use bd_script::Reason;
@@ -63,7 +64,9 @@ impl ProgramFault {
 
     /// This fault, or want of memory, if that is what the error says.
     pub fn or_memory(self, error: &io::Error) -> ProgramFault
-        ensures { (result ≡ self) ⊎ (result ≡ Memory) }
+        ensures either { (result ≡ self) ⊎ (result ≡ Memory) }
+        ensures memory { error_kind error.now ≡ ErrorKind.OutOfMemory → result ≡ Memory }
+        ensures other { error_kind error.now ≢ ErrorKind.OutOfMemory → result ≡ self }
     {
         match error.kind() {
             ErrorKind::OutOfMemory => ProgramFault::Memory,

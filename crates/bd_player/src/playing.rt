@@ -1,13 +1,13 @@
 //! Playing a script line by line.
 
-ghost use Rattle.std.specs.Prelude.{◌≡◌, ◌++◌, false, All, IfOk, IfErr, IfSome, MatchResult, None, Ok, Some};
+ghost use Rattle.std.specs.Prelude.{◌≡◌, ◌++◌, ◌⊎◌, false, All, IfOk, IfErr, IfSome, MatchResult, None, Ok, Some};
 ghost use Rattle.bd_uapi.specs.Limits.{IsSeats};
 ghost use Rattle.bd_space.specs.Histories.{IsHistory};
 ghost use Rattle.bd_spelling.specs.Records.{history_in};
 ghost use Rattle.bd_driver.specs.Together.{new_seats};
 ghost use Rattle.bd_script.specs.Scripts.{read, script_of};
-ghost use Rattle.bd_player.specs.{Playing.{Plays, RunsOn}, Workers.{fault_status}};
-ghost use Rattle.bd_player.specs.declared.faults.ProgramFault.TheVariants.{Journal};
+ghost use Rattle.bd_player.specs.{Playing.{Plays, RunsOn, SaysBadLine}, Workers.{fault_status}};
+ghost use Rattle.bd_player.specs.declared.faults.ProgramFault.TheVariants.{File, Journal, Memory};
 
 use crate::faults::{DONE, ProgramFault, tell};
 use crate::printing::Printer;
@@ -63,6 +63,7 @@ pub fn read_on<R: Read>(
 ) -> Result<Vec<u8>, ProgramFault>
     ensures bytes { IfOk result (λ v. IfSome (R.remaining reader.old) (λ bytes. v.items ≡ first.now ++ bytes)) }
     ensures fault { IfErr result (λ f. f ≡ Journal → ⊥) }
+    ensures why { IfErr result (λ f. (f ≡ File) ⊎ (f ≡ Memory)) }
 {
     let Ok(mut bytes) = Vec::from_slice(alloc, first) else {
         return Err(ProgramFault::Memory);
@@ -78,6 +79,8 @@ pub fn script_from<R: Read>(alloc: Global, reader: &mut R) -> Result<Script, Pro
     ensures seats { IfOk result (λ s. IsSeats s.seats) }
     // It says what the bytes say.
     ensures says { IfOk result (λ s. IfSome (R.remaining reader.old) (λ bytes. script_of bytes ≡ Ok (read s))) }
+    // A line that is called bad is the first that is.
+    ensures line { IfErr result (SaysBadLine (R.remaining reader.old)) }
 {
     let bytes = read_on(alloc, &[], reader)?;
     match read_script(alloc, &bytes) {

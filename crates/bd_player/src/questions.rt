@@ -1,10 +1,10 @@
 //! Questions about a history, and what is printed of each.
 
-ghost use Rattle.std.specs.Prelude.{IfOk};
+ghost use Rattle.std.specs.Prelude.{◌≡◌, false, Err, IfErr, IfOk};
 ghost use Rattle.bd_engine.specs.Refusals.{IsLiveSeats};
 ghost use Rattle.bd_space.specs.Histories.{IsHistory};
 ghost use Rattle.bd_spelling.specs.Records.{history_in};
-ghost use Rattle.bd_player.specs.Answered.{IsThere};
+ghost use Rattle.bd_player.specs.{Answered.{IsThere, names_place}, declared.untold.Untold.TheVariants.{OutOfRange}};
 
 use crate::certificates::{tell_answered, tell_chain, tell_turns};
 use crate::untold::Untold;
@@ -25,7 +25,9 @@ pub enum Question {
 }
 
 // Whether every place that the question names is one of the history.
-fn is_within(question: Question, record: &Record) -> bool {
+fn is_within(question: Question, record: &Record) -> bool
+    ensures { result ≡ names_place (history_in «record».now) question }
+{
     let len = record.entries.len();
     match question {
         Question::Chain { .. } => true,
@@ -45,7 +47,10 @@ pub fn answer<W: Write>(
 ) -> Result<bool, Untold>
     requires seats { IsLiveSeats «record».now.seats }
     requires lawful { IsHistory (history_in «record».now) }
-    ensures { IfOk result (IsThere (history_in «record».now) question) }
+    ensures there { IfOk result (IsThere (history_in «record».now) question) }
+    // It is called out of range where it is so, and nowhere else.
+    ensures outside { names_place (history_in «record».now) question ≡ false → result ≡ Err OutOfRange }
+    ensures range { IfErr result (λ u. u ≡ OutOfRange → names_place (history_in «record».now) question ≡ false) }
 {
     if !is_within(question, record) {
         return Err(Untold::OutOfRange);

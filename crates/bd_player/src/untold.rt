@@ -1,5 +1,8 @@
 //! Why something that is asked of a history isn't told.
 
+ghost use Rattle.std.specs.Prelude.{◌≡◌};
+ghost use Rattle.bd_player.specs.declared.untold.Untold.TheVariants.{Memory as Untold-Memory, Output as Untold-Output};
+
 use bd_uapi::Fault;
 use std::alloc::AllocError;
 use std::io;
@@ -20,6 +23,8 @@ pub enum Untold {
 }
 
 impl From<AllocError> for Untold {
+    ghost from_gives = { λ _ e. e ≡ Untold-Memory };
+
     fn from(_e: AllocError) -> Untold {
         Untold::Memory
     }
@@ -27,12 +32,16 @@ impl From<AllocError> for Untold {
 
 // The only fault of a history that is made again is want of memory.
 impl From<Fault> for Untold {
+    ghost from_gives = { λ _ e. e ≡ Untold-Memory };
+
     fn from(_e: Fault) -> Untold {
         Untold::Memory
     }
 }
 
 impl From<io::Error> for Untold {
+    ghost from_gives = { λ _ e. e ≡ Untold-Output };
+
     fn from(_e: io::Error) -> Untold {
         Untold::Output
     }

@@ -20,4 +20,5 @@ loop-done-preserved g c =
     record {
       judged = judged_next h i e h.entries refl below taken.0 c.see.new.self (c.in_ok-see-in-Ok-Some.ensures.seen (beginning i h) c.loop-done.invariant.judged);
       rest = taken.1;
+      heard = λ _. c.follow.ensures;
     }

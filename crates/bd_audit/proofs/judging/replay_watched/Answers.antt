@@ -11,5 +11,5 @@ returns-in-Ok-None-clause-first g c =
     let n = c.min-placed.result in
     let within : n ≤ length es = omega (arith, c.min-placed.ensures, c.len-len.ensures) in
     let fewer : n < length es = omega (arith, c.if-placed-len.true, c.len-len.ensures) in
-    let lawful = subst (IsStop (beginning n (history_of seats es))) c.in-Ok-None.field-0-is c.in-Ok-None.ensures in
+    let lawful = subst (IsStop (beginning n (history_of seats es))) c.in-Ok-None.field-0-is c.in-Ok-None.ensures.stop in
     stops_at_end (history_of seats es) n within (omega (arith, c.min-placed.ensures)) (omega (arith, c.min-placed.ensures, c.len-len.ensures, fewer)) fewer lawful
