@@ -48,12 +48,17 @@ static const char usage[] =
     "  --seats N               seats of a device, 2 to 65536 (16384): as many threads may use it at a time\n"
     "  --manager UID           the user, by number or name, who may be the context manager, besides root and the daemon's own user\n"
     "                          (whoever was it first)\n"
-    "  --log FILE              log there (to standard error); -v: log all that happens\n"
+    "  --log FILE              log there (to standard error)\n"
+    "  -v, --verbose           log all that happens\n"
     "  --background            return as soon as clients may connect\n"
     "  --no-filter             leave out the filter of system calls, on a kernel without seccomp\n"
     "  --look                  tell whether programs reach a daemon, and where: status 0 or 1\n"
     "  --stats NAME            tell what a daemon has counted on a device: commands, returns, refusals, turns\n"
     "  --state NAME            tell what the processes and threads of a device are at. The daemon tells its own user and root\n"
+    "\n"
+    "For example, this also records what programs do on /dev/binder:\n"
+    "\n"
+    "    hullpippind --background --journal calls.journal\n"
     "\n"
     "SIGTERM and SIGINT end the daemon in order. Status 3: a daemon listens there already.\n";
 
