@@ -43,14 +43,7 @@ pub trait Objects {
     fn called(&self, object: ObjectId) -> Option<&str>;
     /// The interface that calls on it name.
     fn interface(&self, object: ObjectId) -> Option<&str>;
-    /// What the line of a call calls it.
-    fn title(&self, object: ObjectId) -> Option<&str> {
-        self.called(object)
-    }
 }
-
-/// What the manager's object is called.
-const MANAGER: &str = "manager";
 
 impl Objects for Space {
     fn words(&self, object: ObjectId) -> String {
@@ -67,14 +60,6 @@ impl Objects for Space {
 
     fn interface(&self, object: ObjectId) -> Option<&str> {
         crate::rules::Space::called(self, object)?.interface.as_deref()
-    }
-
-    /// The manager goes by its interface, once that is known, as `trace` tells it of a daemon that runs.
-    fn title(&self, object: ObjectId) -> Option<&str> {
-        match self.name_of(object) {
-            Some(MANAGER) => self.interface(object).or(Some(MANAGER)),
-            name => name,
-        }
     }
 }
 

@@ -127,7 +127,7 @@ impl Chronicle<'_> {
     fn told(&self, end: End<'_>, objects: &dyn Objects, people: &dyn People) -> Told {
         let call = end.call;
         let name =
-            call.object.map_or(String::new(), |it| objects.title(it).map_or_else(|| objects.number(it), String::from));
+            call.object.map_or(String::new(), |it| objects.called(it).map_or_else(|| objects.number(it), String::from));
         let interface = call.object.and_then(|it| objects.interface(it));
         let ended = end.ended.filter(|_| !matches!(end.ending, Ending::Open));
         Told {

@@ -361,7 +361,7 @@ fn the_daemons_own_steps_are_shown_to_who_asks() {
 fn a_recording_is_told_by_its_calls() {
     let recorded = Recorded::registered("calls");
     let line =
-        "11:03:10.000000 Binder:200_1 x(200/215) -> manager(100/100) android.os.IServiceManager#3 112 B = 4 B <1.2 ms, 13.1 us unread>\n";
+        "11:03:10.000000 Binder:200_1 x(200/215) -> manager(100/100) manager#3 112 B = 4 B <1.2 ms, 13.1 us unread>\n";
     assert_eq!(printed(&["calls", recorded.path()]), line);
     let of_service = ["--interface", "manager"];
     for words in
@@ -380,7 +380,7 @@ fn a_recording_is_told_by_its_calls() {
     let bare = Journal::registered().file("bare-calls");
     assert_eq!(
         printed(&["calls", bare.path()]),
-        "4 pid 200 seat 1 -> pid 100 seat 0 android.os.IServiceManager#3 112 B = 4 B <4 entries, 1 entries unread>\n"
+        "4 pid 200 seat 1 -> pid 100 seat 0 manager#3 112 B = 4 B <4 entries, 1 entries unread>\n"
     );
     let one_way = Journal::one_way().file("one-way-calls");
     assert_eq!(
@@ -403,7 +403,7 @@ fn methods_are_called_by_the_names_of_the_files() {
     let top = folder.parent().and_then(|it| it.parent()).expect("the folder").display().to_string();
     let recorded = Recorded::registered("aidl");
     let done = run(&["calls", recorded.path(), "--aidl", &top]);
-    let line = "11:03:10.000000 Binder:200_1 x(200/215) -> manager(100/100) android.os.IServiceManager.addService(\"hello\", binder 0x1000) 112 B = 4 B";
+    let line = "11:03:10.000000 Binder:200_1 x(200/215) -> manager(100/100) manager.addService(\"hello\", binder 0x1000) 112 B = 4 B";
     let (lines, said) = (String::from_utf8_lossy(&done.stdout), String::from_utf8_lossy(&done.stderr));
     assert!(lines.starts_with(line), "{lines}");
     assert!(said.contains("Bad.aidl: line 1: a name is wanted; so it isn't used"), "{said}");
