@@ -3,7 +3,7 @@
 import re
 import subprocess
 
-HEAD = '.TH HULLPIPPIN 1 "" "hullpippin {version}" "User Commands"\n.SH NAME\nhullpippin \\- looks at recordings of Binder\'s transactions\n'
+HEAD = '.TH HULLPIPPIN 1 "" "hullpippin {version}" "User Commands"\n.SH NAME\nhullpippin \\- shows Binder\'s transactions, recorded or live\n'
 TAIL = """.SH ENVIRONMENT
 .TP
 .B HULLPIPPIN_LIBRARY

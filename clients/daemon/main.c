@@ -34,7 +34,8 @@ static const char usage[] =
     "usage: hullpippind [--socket PATH] [--mode MODE] [--group GROUP] [--devices NAME,..] [--journal [NAME=]FILE].. [--seats N]\n"
     "                   [--manager UID] [--log FILE] [-v] [--background] [--no-filter]\n"
     "       hullpippind --look | --stats NAME | --state NAME [--socket PATH]\n"
-    "       hullpippind --help | --version\n"
+    "       hullpippind --help | --version\n";
+static const char help[] =
     "\n"
     "Serves Binder programs on a machine without a Binder driver. hullpippin-run PROGRAM starts a daemon and runs a program over it.\n"
     "What stands in brackets holds without the option.\n"
@@ -48,12 +49,17 @@ static const char usage[] =
     "  --seats N               seats of a device, 2 to 65536 (16384): as many threads may use it at a time\n"
     "  --manager UID           the user, by number or name, who may be the context manager, besides root and the daemon's own user\n"
     "                          (whoever was it first)\n"
-    "  --log FILE              log there (to standard error); -v: log all that happens\n"
+    "  --log FILE              log there (to standard error)\n"
+    "  -v, --verbose           log all that happens\n"
     "  --background            return as soon as clients may connect\n"
     "  --no-filter             leave out the filter of system calls, on a kernel without seccomp\n"
     "  --look                  tell whether programs reach a daemon, and where: status 0 or 1\n"
     "  --stats NAME            tell what a daemon has counted on a device: commands, returns, refusals, turns\n"
     "  --state NAME            tell what the processes and threads of a device are at. The daemon tells its own user and root\n"
+    "\n"
+    "For example, this also records what programs do on /dev/binder:\n"
+    "\n"
+    "    hullpippind --background --journal calls.journal\n"
     "\n"
     "SIGTERM and SIGINT end the daemon in order. Status 3: a daemon listens there already.\n";
 
@@ -94,41 +100,65 @@ static const struct option names[] = {
     {NULL, 0, NULL, 0},
 };
 
+/* What --devices and --journal name, which is looked at once all is read. */
+struct named {
+    const char *devices, *journals[DEVICES_MAX];
+    int journal_count;
+};
+
+/* Takes an option; false where its word makes no sense. */
+static bool take_option(struct daemon *daemon, struct options *options, struct named *named, int option)
+{
+    switch (option) {
+    case 's': options->socket = optarg; break;
+    case 'd': named->devices = optarg; break;
+    case 'j':
+        if (named->journal_count == DEVICES_MAX)
+            return false;
+        named->journals[named->journal_count++] = optarg;
+        break;
+    case 'n': return read_seats(daemon, optarg);
+    case 'l': options->log = optarg; break;
+    case 'b': options->is_background = true; break;
+    case 'v': options->is_verbose = true; break;
+    case 'm': return listener_set_mode(&daemon->listener, optarg);
+    case 'g': return listener_set_group(&daemon->listener, optarg);
+    case 'c': return read_manager(daemon, optarg);
+    case 'f': options->is_unfiltered = true; break;
+    case 'k': options->looks = true; break;
+    case 't': options->stats = optarg; break;
+    case 'p': options->state = optarg; break;
+    case 'h': options->helps = true; break;
+    default: options->tells_version = true;
+    }
+    return true;
+}
+
+/* Of an option's word, or of one that stands alone. Always false. */
+static bool tell_senseless(const char *option, const char *word)
+{
+    fprintf(stderr, "hullpippind: %s%s%s'%s' makes no sense\n", option ? "--" : "", option ? option : "", option ? " " : "", word);
+    return false;
+}
+
 static bool read_options(struct daemon *daemon, struct options *options, int count, char **words)
 {
-    const char *devices = DEFAULT_DEVICES, *journals[DEVICES_MAX];
-    int option, journal_count = 0;
-    bool is_good = true;
-    while ((option = getopt_long(count, words, "v", names, NULL)) != -1) {
-        switch (option) {
-        case 's': options->socket = optarg; break;
-        case 'd': devices = optarg; break;
-        case 'j':
-            is_good = is_good && journal_count < DEVICES_MAX;
-            if (is_good)
-                journals[journal_count++] = optarg;
-            break;
-        case 'n': is_good = is_good && read_seats(daemon, optarg); break;
-        case 'l': options->log = optarg; break;
-        case 'b': options->is_background = true; break;
-        case 'v': options->is_verbose = true; break;
-        case 'm': is_good = is_good && listener_set_mode(&daemon->listener, optarg); break;
-        case 'g': is_good = is_good && listener_set_group(&daemon->listener, optarg); break;
-        case 'c': is_good = is_good && read_manager(daemon, optarg); break;
-        case 'f': options->is_unfiltered = true; break;
-        case 'k': options->looks = true; break;
-        case 't': options->stats = optarg; break;
-        case 'p': options->state = optarg; break;
-        case 'h': options->helps = true; break;
-        case 'V': options->tells_version = true; break;
-        default: is_good = false;
-        }
+    struct named named = {.devices = DEFAULT_DEVICES};
+    int option, at = 0;
+    while ((option = getopt_long(count, words, "v", names, &at)) != -1) {
+        if (option == '?') /* (which has been told) */
+            return false;
+        if (!take_option(daemon, options, &named, option))
+            return tell_senseless(names[at].name, optarg);
     }
-    is_good = is_good && optind == count && devices_add(daemon, devices);
-    is_good = is_good && options->looks + !!options->stats + !!options->state <= 1; /* each prints what it alone is asked for */
-    for (int i = 0; i < journal_count && is_good; i++)
-        is_good = devices_set_journal(daemon, journals[i]);
-    return is_good;
+    if (optind < count)
+        return tell_senseless(NULL, words[optind]);
+    if (!devices_add(daemon, named.devices))
+        return tell_senseless("devices", named.devices);
+    for (int i = 0; i < named.journal_count; i++)
+        if (!devices_set_journal(daemon, named.journals[i]))
+            return tell_senseless("journal", named.journals[i]);
+    return options->looks + !!options->stats + !!options->state <= 1; /* each prints what it alone is asked for */
 }
 
 static void signal_ready(struct watch *watch)
@@ -288,7 +318,7 @@ int main(int count, char **words)
     if (!read_options(&daemon, &options, count, words))
         return fputs(usage, stderr), STATUS_USAGE;
     if (options.helps)
-        return fputs(usage, stdout), 0;
+        return fputs(usage, stdout), fputs(help, stdout), 0;
     if (options.tells_version)
         return version_tell(stdout), 0;
     if (options.looks)

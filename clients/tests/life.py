@@ -147,7 +147,7 @@ def who_may_come(build, where):
             expect(reaches(build, env=env, user=STRANGER, group=OTHER), "one of the group isn't let in")
             expect(not reaches(build, env=env, user=STRANGER, group=STRANGER), "one who isn't of the group is let in")
     for words in (["--mode", "888"], ["--mode", "1777"], ["--mode", ""], ["--group", "no such group"], ["--group", "-1"]):
-        end(build, words, "usage: ", 2, env=env)
+        end(build, words, f"hullpippind: {words[0]} '{words[1]}' makes no sense\nusage: ", 2, env=env)
 
 
 @contextmanager

@@ -11,9 +11,18 @@ use crate::times::TimeWord;
 use crate::told::Wanted;
 use clap::{Args, Parser, Subcommand, ValueEnum};
 
-/// Looks at recordings of Binder's transactions: what was sent, why it was refused, who holds what.
+const EXAMPLES: &str = "\
+Examples:
+  hullpippin trace binder-list -d /dev/binder    runs a program, and prints each of its calls
+  hullpippin calls FILE                          prints the calls of a recording, a line each
+  hullpippin show --refused FILE                 prints what was refused, with its parcel
+  hullpippin explain FILE 12                     tells why entry 12 got its answer
+  hullpippin state FILE --at 12                  prints what each process had after 12 entries
+  hullpippin diagram FILE > page.html            draws a recording, for a browser";
+
+/// Shows Binder's transactions, recorded or live: what was sent, why it was refused, who holds what
 #[derive(Parser)]
-#[command(name = "hullpippin", version, max_term_width = 100)]
+#[command(name = "hullpippin", version, max_term_width = 100, after_help = EXAMPLES)]
 pub struct Arguments {
     /// When to use colours: auto does so on a terminal, unless NO_COLOR is set
     #[arg(long, global = true, value_enum, default_value = "auto", value_name = "WHEN")]
@@ -66,37 +75,41 @@ pub enum Format {
 
 #[derive(Subcommand)]
 pub enum Word {
+    /// Prints each call as it ends: of a program, of a daemon, or of Linux's own driver
+    Trace(Trace),
+    /// Shows who calls whom, how often and how long: in a daemon, or in Linux's driver
+    #[cfg(feature = "top")]
+    Top(Top),
+    /// Prints the calls of a recording or of a kernel's trace, a line each
+    Calls(Called),
     /// Prints entries, in the header's words, with their parcels
     Show(Show),
-    /// Tells why an entry got its answer, or what a name means: X6, BadObject, BR_FAILED_REPLY
+    /// Tells why an entry got its answer, or what a name such as BR_FAILED_REPLY means
     Explain(Explain),
-    /// Prints what each process has at the end, or at another place: handles, objects, buffers, what is unread
+    /// Prints what each process has at a place: handles, objects, buffers, what is unread
     State(State),
     /// Prints everything that holds an object
     Holders(Holders),
-    /// Prints buffers that nobody frees, references that somebody asks for again and again, and what grows
+    /// Prints buffers that nobody frees, references asked for too often, and what grows
     Leaks(Leaks),
-    /// Prints the calls of a recording or of a kernel's trace, a line each
-    Calls(Called),
     /// Counts commands, returns, refusals, and calls by who calls whom with which code
     Stats(Stats),
     /// Prints the calls that took longest, and those still open
     Slow(Slow),
+    /// Draws a recording: as a page of HTML, as a picture, for Mermaid, or for a terminal
+    Diagram(Diagram),
     /// Writes a recording in the form of another program
     Export(Export),
-    /// Draws a recording: as one page of HTML with search, zoom and hiding, as a picture, for Mermaid, or for a terminal
-    Diagram(Diagram),
-    /// Prints each call as it ends, in a line: of a program that it runs, of a daemon, or with --kernel of Linux's own driver
-    Trace(Trace),
-    /// Shows who calls whom, how often, and how long that takes: in a daemon that runs, or with --kernel in Linux's own driver
-    #[cfg(feature = "top")]
-    Top(Top),
-    /// Ends a kernel's tracing once who has begun it has ended
-    #[command(hide = true)]
-    KernelGuard {
-        #[arg(value_name = "INSTANCE")]
-        instance: std::path::PathBuf,
+    /// Writes JOURNAL.index, by which --from and --at start near their place
+    Index {
+        /// A journal
+        #[arg(value_name = "JOURNAL")]
+        journal: String,
     },
+    /// Runs a program, and records what it and all that it starts ask of Binder devices
+    Record(Record),
+    /// Judges a recording of a real driver: whether some order of its steps explains it
+    Judge(Judge),
     /// Turns a script with names into one for the player, or plays it
     Script(Script),
     /// Plays a script with names while you type it, and shows what comes of each line
@@ -109,12 +122,14 @@ pub enum Word {
         #[arg(long, value_name = "N", default_value_t = TURNS)]
         turns: u32,
     },
-    /// Runs a program, and records what it and all that it starts ask of Binder devices
-    Record(Record),
-    /// Judges a recording of a real driver by the rules: whether some order of its threads' steps explains all answers
-    Judge(Judge),
-    /// Plays a plain script on the model of the rules, also with Linux's differences: what it would print
+    /// Plays a plain script on the model of the rules, as the player would
     Rules(Rules),
+    /// Ends a kernel's tracing once who has begun it has ended
+    #[command(hide = true)]
+    KernelGuard {
+        #[arg(value_name = "INSTANCE")]
+        instance: std::path::PathBuf,
+    },
     /// Prints the completions for a shell
     #[cfg(feature = "completions")]
     #[command(hide = true)]
@@ -122,12 +137,6 @@ pub enum Word {
         /// The shell
         #[arg(value_enum)]
         shell: clap_complete::Shell,
-    },
-    /// Writes JOURNAL.index beside a journal, by which --from and --at start near their place
-    Index {
-        /// A journal
-        #[arg(value_name = "JOURNAL")]
-        journal: String,
     },
 }
 

@@ -61,7 +61,7 @@ use clap::CommandFactory;
 use clap::Parser;
 use live::trace::Trace;
 use out::{Out, Palette};
-use play::Player;
+use play::{Nothing, Player};
 use script::Setting;
 use show::Style;
 use std::fs::File;
@@ -109,8 +109,8 @@ fn say_shown(given: &Show, shown: u64, own: u64) -> Result<()> {
     if own > 0 {
         eprintln!("hullpippin: {own} steps of the daemon's own are left out; --own shows them");
     }
-    if shown == 0 && own == 0 && given.selection.is_any() {
-        bail!("{}: no entry is as chosen", play::name(&given.journal));
+    if shown == 0 && own == 0 && (given.selection.is_any() || given.range.is_any()) {
+        return Err(Nothing { path: given.journal.clone(), what: "entry" }.into());
     }
     Ok(())
 }
@@ -225,8 +225,8 @@ fn calls(given: &Called, palette: Palette, out: &mut Out) -> Result<()> {
 
 /// Says that there was no call, where some were chosen.
 fn check_any(given: &Called, lines: u64) -> Result<()> {
-    if lines == 0 && given.wanted.is_any() {
-        bail!("{}: no call is as chosen", play::name(&given.journal));
+    if lines == 0 && (given.wanted.is_any() || given.range.is_any()) {
+        return Err(Nothing { path: given.journal.clone(), what: "call" }.into());
     }
     Ok(())
 }
@@ -420,6 +420,9 @@ fn main() -> ExitCode {
     let mut out =
         Out::new(!arguments.no_pager && !arguments.progress && !arguments.follows() && !arguments.is_for_programs());
     let done = run(&mut arguments, &mut out);
+    if matches!(&done, Err(error) if error.is::<Nothing>()) {
+        out.held.clear(); // (a picture's frame, or calls that were open before: nothing that was asked for)
+    }
     let closed = out.close().map_err(anyhow::Error::from);
     match done.and_then(|status| closed.map(|()| status)) {
         Ok(status) => ExitCode::from(status),

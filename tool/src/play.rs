@@ -11,6 +11,8 @@ use crate::source::{End, Source};
 use crate::times::TimeWord;
 use anyhow::{bail, Context, Result};
 use clap::Args;
+use std::error::Error;
+use std::fmt;
 use std::str::FromStr;
 
 /// A range of places, and of times where these lie beside the journal.
@@ -29,6 +31,30 @@ pub struct Range {
     #[arg(long, value_name = "TIME")]
     pub until: Option<TimeWord>,
 }
+
+impl Range {
+    /// Whether it leaves anything out.
+    pub fn is_any(&self) -> bool {
+        self.from > 0 || self.to.is_some() || self.since.is_some() || self.until.is_some()
+    }
+}
+
+/// That a choice leaves nothing to be told of.
+#[derive(Debug)]
+pub struct Nothing {
+    /// Of what: a file, or a device.
+    pub path: String,
+    /// What there is none of: `entry`, `event`, `call`.
+    pub what: &'static str,
+}
+
+impl fmt::Display for Nothing {
+    fn fmt(&self, to: &mut fmt::Formatter<'_>) -> fmt::Result {
+        write!(to, "{}: no {} is as chosen", name(&self.path), self.what)
+    }
+}
+
+impl Error for Nothing {}
 
 /// A place, or the time from which on it is sought.
 #[derive(Clone, Copy, Debug, PartialEq, Eq)]
@@ -106,6 +132,8 @@ pub struct Player {
     pub judge: Option<Judge>,
     /// The place of the first entry that doesn't follow, once one was found.
     pub unlawful: Option<u64>,
+    /// How many entries lay within the bounds that were asked for.
+    within: u64,
     progress: Option<Progress>,
     facts: Facts,
 }
@@ -123,6 +151,7 @@ impl Player {
             beside,
             judge: None,
             unlawful: None,
+            within: 0,
             progress: Progress::new(),
             facts,
         })
@@ -200,7 +229,7 @@ impl Player {
 
     /// Makes the next step. None behind the last.
     pub fn next(&mut self, idle: impl FnMut() -> Result<()>) -> Result<Option<(Entry<'_>, &Space, &Facts)>> {
-        let Player { path, source, space, beside, judge, unlawful, progress, facts } = self;
+        let Player { path, source, space, beside, judge, unlawful, progress, facts, .. } = self;
         let count = source.heading().count;
         let entry = match source.next_or(idle).with_context(|| name(path))? {
             Some(entry) => entry,
@@ -227,7 +256,10 @@ impl Player {
             match self.next(|| call(None))? {
                 Some((entry, space, facts)) => match bounds.lies(entry.place, facts) {
                     Lies::Before => {}
-                    Lies::Within => call(Some((&entry, space, facts)))?,
+                    Lies::Within => {
+                        call(Some((&entry, space, facts)))?;
+                        self.within += 1;
+                    }
                     Lies::Behind => return Ok(()),
                 },
                 None => {
@@ -239,27 +271,42 @@ impl Player {
         Ok(())
     }
 
-    /// Calls this for each entry up to the end of the bounds, with where it lies.
+    /// Calls this for each entry up to the end of the bounds, with where it lies. Within them there has to be one.
     pub fn each_lying(&mut self, bounds: &Bounds, mut call: impl FnMut(Lies, Seen<'_>) -> Result<()>) -> Result<()> {
         while bounds.go_on(self.source.place()) {
             match self.next(|| Ok(()))? {
                 Some((entry, space, facts)) => match bounds.lies(entry.place, facts) {
-                    Lies::Behind => return Ok(()),
-                    lies => call(lies, (&entry, space, facts))?,
+                    Lies::Behind => return self.check_any(bounds.range),
+                    lies => {
+                        call(lies, (&entry, space, facts))?;
+                        self.within += u64::from(lies == Lies::Within);
+                    }
                 },
-                None => return self.ended(bounds.range),
+                None => {
+                    self.ended(bounds.range)?;
+                    break;
+                }
             }
         }
-        Ok(())
+        self.check_any(bounds.range)
     }
 
-    /// Calls this for each entry of the range.
+    /// Calls this for each entry of the range, which has to have one.
     pub fn each(&mut self, range: Range, mut call: impl FnMut(&Entry<'_>, &Space, &Facts) -> Result<()>) -> Result<()> {
         let bounds = self.bounds(range)?;
         self.each_within(&bounds, |seen| match seen {
             Some((entry, space, facts)) => call(entry, space, facts),
             None => Ok(()),
-        })
+        })?;
+        self.check_any(range)
+    }
+
+    /// Sees that there was an entry within a range, where one was asked for.
+    fn check_any(&self, range: Range) -> Result<()> {
+        if range.is_any() && self.within == 0 {
+            return Err(Nothing { path: self.path.clone(), what: "entry" }.into());
+        }
+        Ok(())
     }
 
     /// Makes the steps before a place, as far as there are any; at the end of the journal it says how that ends.

@@ -138,7 +138,9 @@ leaves: a Refusal on the writer's own list, which reads as BR_FAILED_REPLY
         .starts_with("hullpippin: nothing is called X17, and there is no such file: there are F1"));
     let judged = fault(&["explain", Journal::base().file("names").path()]);
     assert!(
-        judged.starts_with("hullpippin: no library that judges, which tools/install brings or HULLPIPPIN_LIBRARY names: /no/such/"),
+        judged.starts_with(
+            "hullpippin: no library that judges, which tools/install brings or HULLPIPPIN_LIBRARY names: /no/such/"
+        ),
         "{judged}"
     );
 }

@@ -72,9 +72,33 @@ fn periods_choose() {
     assert_eq!(of(&["--since", "11:03:07.0005", "--until", "11:03:10"]), [2, 3]);
     assert_eq!(of(&["--since", "2026-11-28T11:03:10.00005", "--until", "2026-11-28 11:03:11"]), [6, 7, 8]);
     assert_eq!(of(&["--since", "+0.0004", "--from", "3", "--to", "6"]), [3, 4, 5]);
-    assert_eq!(of(&["--since", "2026-11-29T00:00"]), Vec::<u64>::new());
-    assert_eq!(of(&["--until", "1999-12-31T23:59"]), Vec::<u64>::new());
     assert_eq!(places(&["show", file.path(), "--since", "+1.5", "--command", "read"]), [5, 8]);
+}
+
+/// Whatever looks at a period in which nothing was says so, and prints nothing: no head of a table, no frame of a picture.
+#[test]
+fn a_period_without_entries_is_told() {
+    let file = Recorded::registered("nothing");
+    let periods = [&["--since", "2026-11-29T00:00"][..], &["--until", "1999-12-31T23:59"], &["--from", "9"]];
+    let words = [
+        &["show"][..],
+        &["stats"],
+        &["slow"],
+        &["diagram"],
+        &["diagram", "--format", "svg"],
+        &["diagram", "--format", "mermaid"],
+        &["diagram", "--format", "text"],
+        &["export", "--format", "perfetto"],
+        &["export", "--format", "pcapng"],
+    ];
+    for (words, period) in words.iter().flat_map(|words| periods.iter().map(move |it| (words, it))) {
+        let done = run(&[words, &[file.path()][..], period].concat());
+        let said = String::from_utf8_lossy(&done.stderr).into_owned();
+        assert_eq!(said, format!("hullpippin: {}: no entry is as chosen\n", file.path()), "{words:?} {period:?}");
+        assert_eq!((done.status.code(), done.stdout.len()), (Some(1), 0), "{words:?} {period:?}");
+    }
+    let said = fault(&["calls", file.path(), "--since", "2026-11-29T00:00"]);
+    assert_eq!(said, format!("hullpippin: {}: no entry is as chosen\n", file.path()));
 }
 
 #[test]
@@ -351,6 +375,8 @@ fn a_recording_is_told_by_its_calls() {
         let said = fault(&[&["calls", recorded.path()][..], words].concat());
         assert!(said.ends_with("no call is as chosen\n"), "{words:?}: {said}");
     }
+    let said = fault(&["calls", recorded.path(), "--to", "2"]);
+    assert_eq!(said, format!("hullpippin: {}: no call is as chosen\n", recorded.path()));
     let bare = Journal::registered().file("bare-calls");
     assert_eq!(
         printed(&["calls", bare.path()]),

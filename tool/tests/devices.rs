@@ -226,6 +226,19 @@ fn a_range_of_lines_or_seconds_is_told() {
     let since = told(&["calls", &path, "--since", "+10"]);
     assert!(since.lines().count() < all.lines().count(), "{since}");
     assert!(fault(&["calls", &path, "--since", "12:00"]).contains("times are +1.5"));
+    for words in [
+        &["calls"][..],
+        &["stats"],
+        &["slow"],
+        &["diagram"],
+        &["diagram", "--format", "text"],
+        &["export", "--format", "perfetto"],
+    ] {
+        let done = run(&[words, &[&path, "--since", "+100000"]].concat());
+        let said = String::from_utf8_lossy(&done.stderr).into_owned();
+        assert!(said.ends_with(&format!("hullpippin: {path}: no event is as chosen\n")), "{words:?}: {said}");
+        assert_eq!((done.status.code(), done.stdout.len()), (Some(1), 0), "{words:?}");
+    }
 }
 
 /// Every `node` line of a state is held by those whose `ref` lines name it.

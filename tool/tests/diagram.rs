@@ -147,6 +147,31 @@ fn a_sequence_has_what_threads_are_called() {
     assert!(fault(&["diagram", recorded.path(), "--format", "svg", "--to", "99"]).contains("there is no place 99"));
 }
 
+/// Later headings tell whose the lanes are by then, where another process has come to a seat.
+#[test]
+fn later_headings_are_of_who_sits_there() {
+    let mut journal = Journal::base();
+    let who = "HPWHO 1 binder\n0 0 100 100 manager\n3 1 200 200 first\n24 1 201 201 later\n";
+    // (rows 0 to 2 are of the base: a process, the manager, a process; then each exit and each open has one)
+    for pid in std::iter::once(200).chain(std::iter::repeat(201).take(20)) {
+        journal.entry(1, &[6], &[2]).open(1, pid, 2000);
+    }
+    let clocks: Vec<u64> = (0..journal.count).map(|it| STARTED + u64::from(it)).collect();
+    let recorded = Recorded::new("headings", &journal, &clocks, who);
+    let told = printed(&["diagram", recorded.path(), "--format", "text"]);
+    let headings = |word: &str| -> Vec<String> {
+        told.lines()
+            .filter(|it| it.trim_start().starts_with(word))
+            .map(|it| it.split_whitespace().skip(1).collect::<Vec<_>>().join(" "))
+            .collect()
+    };
+    assert_eq!(
+        (headings("pid "), headings("name ")),
+        (vec!["100 200".into(), "100 201".into()], vec!["manager first".into(), "manager later".into()]),
+        "{told}"
+    );
+}
+
 /// What a client calls itself does nothing in a diagram.
 #[test]
 fn a_name_is_no_word_of_a_form() {

@@ -206,7 +206,12 @@ fn what_is_no_recording_is_refused() {
         assert!(matches!(status, Some(0 | 1)), "byte {at}: {told} {status:?}");
     }
     let file = kept("none.recording", b"HPREC002 and more");
-    assert!(fault(&["judge", file.path()]).contains("byte 0: neither a thread's file nor a trace begins here"));
+    let told = format!("hullpippin: {}: byte 0: neither a thread's file nor a trace begins here\n", file.path());
+    assert_eq!(fault(&["judge", file.path()]), told);
+    assert!(fault(&["judge", "/no/such/recording"]).starts_with("hullpippin: /no/such/recording: No such file"));
+    let folder = env!("CARGO_MANIFEST_DIR"); // (which has folders of its own)
+    let told = format!("hullpippin: {folder}: no recording: no thread has left anything here\n");
+    assert_eq!(fault(&["judge", folder]), told);
 }
 
 /// Where in a recording the file of each thread begins and ends, and where its last record begins.

@@ -91,7 +91,8 @@ fn calls_are_told_a_line_each() {
     let of = |pid: &str| printed(&[&words[..], &["--pid", pid]].concat());
     assert_eq!(of("9000100"), LINES[0].to_string() + "\n");
     assert_eq!(of("9000300"), LINES[1..].join("\n") + "\n");
-    assert_eq!(of("7"), "");
+    let none = fault(&[&words[..], &["--code", "99"]].concat());
+    assert_eq!(none, "hullpippin: /dev/binder: no call is as chosen\n");
     let later = printed(&["trace", "--socket", socket.path(), "--once"]);
     assert_eq!(later, LINES[4].to_string() + "\n", "what was over before isn't told unless one wants the past");
     let done =
@@ -173,7 +174,24 @@ fn a_count_that_cannot_be_is_no_step() {
     memory[128..136].copy_from_slice(&[0xff; 8]);
     fs::write(&ring.file.0, memory).expect("the ring");
     let socket = daemon("count", &ring, 0);
-    assert_eq!(printed(&["trace", "--once", "--past", "--socket", socket.path()]), "");
+    let done = run(&["trace", "--once", "--past", "--socket", socket.path()]);
+    let said = String::from_utf8_lossy(&done.stderr).into_owned();
+    assert_eq!((said.as_str(), done.stdout.len()), ("hullpippin: /dev/binder: the daemon knows of no call\n", 0));
+    assert!(done.status.success(), "{:?}", done.status);
+}
+
+/// Where no call is open, one learns how to see those that have ended.
+#[test]
+fn that_no_call_is_open_is_told() {
+    let mut ring = Ring::new("none-open", 64);
+    steps()[..6].iter().for_each(|it| ring.put(it));
+    let socket = daemon("none-open", &ring, 0);
+    let words = ["trace", "--once", "--socket", socket.path()];
+    let done = run(&words);
+    let told = "hullpippin: /dev/binder: no call is open; --past prints those that ended before\n";
+    assert_eq!((String::from_utf8_lossy(&done.stderr).as_ref(), done.stdout.len()), (told, 0));
+    assert!(done.status.success(), "{:?}", done.status);
+    assert_eq!(printed(&[&words[..], &["--past"]].concat()), LINES[0].to_string() + "\n");
 }
 
 /// Places behind those of 32 bits.
@@ -336,6 +354,23 @@ fn the_calls_of_a_program_are_told_and_its_status() {
     let told = format!("11:03:07.007000 own({pid}/{pid}) -> nobody handle 5#9 0 B = X1 NotStronglyNamed: the handle is not strongly named\n");
     assert_eq!(String::from_utf8_lossy(&done.stderr), told);
     assert_eq!((done.status.code(), done.stdout.len()), (Some(3), 0));
+}
+
+/// A program that makes no call, or none as chosen: one reads so, and the status is the program's.
+#[test]
+fn a_program_without_calls_is_told() {
+    let ring = filled("quiet");
+    let socket = daemon("quiet", &ring, 0);
+    let run = kept("quiet-run", b"#!/bin/sh\nexec \"$@\"\n");
+    fs::set_permissions(&run.0, fs::Permissions::from_mode(0o755)).expect("a program");
+    for (words, why) in [(&[][..], "sh has made no call, and served none"), (&["--code", "99"], "no call is as chosen")]
+    {
+        let mut command = program();
+        command.args(["trace", "--socket", socket.path()]).args(words).args(["sh", "-c", "exit 3"]);
+        let done = command.env("HULLPIPPIN_RUN", run.path()).output().expect("the program");
+        let said = String::from_utf8_lossy(&done.stderr).into_owned();
+        assert_eq!((said, done.status.code()), (format!("hullpippin: /dev/binder: {why}\n"), Some(3)), "{words:?}");
+    }
 }
 
 #[test]

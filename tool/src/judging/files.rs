@@ -209,6 +209,10 @@ pub fn order_of(path: &str) -> (String, bool) {
 impl Files {
     /// A folder that the recorder has filled, or one file with all of it.
     pub fn read(path: &str) -> Result<Files> {
+        Files::gathered(path).with_context(|| path.to_string())
+    }
+
+    fn gathered(path: &str) -> Result<Files> {
         let mut files = Files::default();
         if !Path::new(path).is_dir() {
             let bytes = fs::read(path)?;
@@ -216,8 +220,8 @@ impl Files {
         } else {
             let mut names: Vec<_> = fs::read_dir(path)?.map(|it| it.map(|it| it.path())).collect::<Result<_, _>>()?;
             names.sort();
-            for name in names {
-                let bytes = fs::read(&name)?;
+            for name in names.into_iter().filter(|it| it.is_file()) {
+                let bytes = fs::read(&name).with_context(|| name.display().to_string())?;
                 let is_trace = name.file_name().map_or(false, |it| it == "trace");
                 if is_trace {
                     files.trace = Some(String::from_utf8_lossy(&bytes).into_owned());

@@ -8,7 +8,7 @@ use super::names;
 use super::perfetto::Recording;
 use super::verbs;
 use crate::calls::Event;
-use crate::play::{name, Range};
+use crate::play::{name, Nothing, Range};
 use crate::times::{Moment, TimeWord};
 use anyhow::{bail, Context, Result};
 use std::collections::HashMap;
@@ -179,6 +179,8 @@ pub struct Trace {
     is_within: bool,
     /// When the first event was.
     first: Option<Moment>,
+    /// How many events lay within the range.
+    within: u64,
 }
 
 fn file(path: &str) -> Result<Lines<'static>> {
@@ -230,8 +232,8 @@ impl Trace {
         };
         let has_lines = path != "-" && child.is_none() && recording.is_none();
         let reader = Reader::default();
-        let mut trace =
-            Trace { path: path.into(), format, lines, recording, reader, child, is_within: false, first: None };
+        let (path, is_within, first, within) = (path.into(), false, None, 0);
+        let mut trace = Trace { path, format, lines, recording, reader, child, is_within, first, within };
         if has_lines {
             trace.look_ahead()?;
         }
@@ -286,7 +288,7 @@ impl Trace {
         false
     }
 
-    /// Calls this for all that the lines of a range tell.
+    /// Calls this for all that the lines of a range tell, which has to have an event.
     pub fn each(&mut self, range: Range, mut call: impl FnMut(Seen<'_>, &Following) -> Result<()>) -> Result<()> {
         let path = name(&self.path);
         let done = self.go(range, &mut call).with_context(|| path.clone());
@@ -294,7 +296,11 @@ impl Trace {
             self.reader.say(&path);
         }
         done?;
-        self.check_end().with_context(|| path)
+        self.check_end().with_context(|| path)?;
+        if range.is_any() && self.within == 0 {
+            return Err(Nothing { path: self.path.clone(), what: "event" }.into());
+        }
+        Ok(())
     }
 
     fn go(&mut self, range: Range, call: &mut dyn FnMut(Seen<'_>, &Following) -> Result<()>) -> Result<()> {
@@ -314,7 +320,8 @@ impl Trace {
             if self.opens_or_ends(&bytes) {
                 continue;
             }
-            let mut bounds = Bounded { range, first: &mut self.first, is_over: false, call };
+            let (first, within) = (&mut self.first, &mut self.within);
+            let mut bounds = Bounded { range, first, within, is_over: false, call };
             self.reader.line(number, &bytes, &mut |seen, following| bounds.pass(number, seen, following))?;
             if bounds.is_over {
                 return Ok(());
@@ -339,7 +346,8 @@ impl Trace {
             if range.to.map_or(false, |it| number >= it) {
                 return Ok(());
             }
-            let mut bounds = Bounded { range, first: &mut self.first, is_over: false, call };
+            let (first, within) = (&mut self.first, &mut self.within);
+            let mut bounds = Bounded { range, first, within, is_over: false, call };
             let mut pass = |seen: Seen<'_>, following: &Following| bounds.pass(number, seen, following);
             self.reader.take(number, &recording.line(event), event.what, &mut pass)?;
             if bounds.is_over {
@@ -376,6 +384,7 @@ impl Trace {
 struct Bounded<'a> {
     range: Range,
     first: &'a mut Option<Moment>,
+    within: &'a mut u64,
     is_over: bool,
     call: &'a mut dyn FnMut(Seen<'_>, &Following) -> Result<()>,
 }
@@ -394,6 +403,7 @@ impl Bounded<'_> {
             (None, _) => true,
         };
         if is_within && !self.is_over {
+            *self.within += u64::from(matches!(seen, Seen::Line(_)));
             return (self.call)(seen, following);
         }
         Ok(())

@@ -8,6 +8,7 @@ use super::slot::Party;
 use super::Where;
 use crate::aidl::method_words;
 use crate::out::Palette;
+use crate::play::Nothing;
 use crate::times::{duration_words, Moment};
 use crate::told::{Ending, Subject, Told, Unread, Wanted};
 use anyhow::{Context, Result};
@@ -176,9 +177,40 @@ pub fn output(given: &Trace) -> Result<Box<dyn Write>> {
     })
 }
 
+/// Where lines go, and how many there were.
+struct Lines {
+    to: Box<dyn Write>,
+    count: usize,
+}
+
+impl Lines {
+    fn put(&mut self, lines: &str) -> io::Result<()> {
+        self.count += lines.lines().count();
+        self.to.write_all(lines.as_bytes())?;
+        self.to.flush()
+    }
+}
+
+/// Says why there was no line. It is a fault where calls were chosen, unless a program has a status of its own.
+fn say_none(given: &Trace) -> Result<()> {
+    let device = &given.place.device;
+    let nothing = Nothing { path: device.clone(), what: "call" };
+    match given.program.first() {
+        Some(_) if given.wanted.is_any() => eprintln!("hullpippin: {nothing}"),
+        Some(program) => eprintln!("hullpippin: {device}: {program} has made no call, and served none"),
+        None if given.wanted.is_any() => return Err(nothing.into()),
+        None if given.past => eprintln!("hullpippin: {device}: the daemon knows of no call"),
+        None if given.once => {
+            eprintln!("hullpippin: {device}: no call is open; --past prints those that ended before");
+        }
+        None => {}
+    }
+    Ok(())
+}
+
 /// Tells calls as they end, until the program ends that is run, or the daemon. The program's status, or 0.
 pub fn trace(given: &Trace, palette: Palette) -> Result<u8> {
-    let (mut ring, mut to) = (open(given)?, output(given)?);
+    let (mut ring, mut to) = (open(given)?, Lines { to: output(given)?, count: 0 });
     let palette = if given.output.is_some() { Palette::default() } else { palette };
     let mut tracing = Tracing { calls: Calls::default(), ahead: ring.ahead, palette };
     let mut wanted = Chosen { wanted: &given.wanted, program: None };
@@ -186,7 +218,7 @@ pub fn trace(given: &Trace, palette: Palette) -> Result<u8> {
     let past = look(&mut ring, &mut tracing, &mut wanted)?;
     ring.lost = 0;
     if given.past {
-        to.write_all(past.as_bytes())?;
+        to.put(&past)?;
     }
     if !given.program.is_empty() {
         wanted.program = Some(Program::start(&given.place, &given.program)?);
@@ -195,9 +227,7 @@ pub fn trace(given: &Trace, palette: Palette) -> Result<u8> {
         // Both are asked before the last look, so that it sees all there was by then.
         let ended = wanted.program.as_mut().map(Program::ended).transpose()?.flatten();
         let is_over = given.once || ring.is_over()?;
-        let lines = look(&mut ring, &mut tracing, &mut wanted)?;
-        to.write_all(lines.as_bytes())?;
-        to.flush()?;
+        to.put(&look(&mut ring, &mut tracing, &mut wanted)?)?;
         if ended.is_some() || is_over {
             break ended.map_or(0, program::status_of);
         }
@@ -205,11 +235,14 @@ pub fn trace(given: &Trace, palette: Palette) -> Result<u8> {
     };
     for (call, line) in tracing.unended() {
         if wanted.has(call, None, &tracing.calls) {
-            to.write_all(line.as_bytes())?;
+            to.put(&line)?;
         }
     }
     if ring.lost > 0 {
         eprintln!("hullpippin: {} steps were written over before they were read", ring.lost);
+    }
+    if to.count == 0 {
+        say_none(given)?;
     }
     Ok(status)
 }

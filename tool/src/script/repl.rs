@@ -108,8 +108,12 @@ impl Session {
         };
         let mut lines = Vec::new();
         let range = Range { from, to: Some(to), ..Range::default() };
-        Player::open(&self.room.journal(), false)?
-            .each(range, |entry, space, facts| Ok(put_entry(&mut lines, &self.style, entry, space, facts)?))?;
+        let mut player = Player::open(&self.room.journal(), false)?;
+        let bounds = player.bounds(range)?;
+        player.each_within(&bounds, |seen| match seen {
+            Some((entry, space, facts)) => Ok(put_entry(&mut lines, &self.style, entry, space, facts)?),
+            None => Ok(()),
+        })?;
         Ok(String::from_utf8_lossy(&lines).into_owned())
     }
 

@@ -14,6 +14,15 @@ pub struct Lane {
     pub name: Option<String>,
 }
 
+/// Whose thread sits on a seat from a row on.
+#[derive(Clone, Debug)]
+pub struct Sitter {
+    pub row: u64,
+    pub seat: u32,
+    pub pid: u32,
+    pub name: Option<String>,
+}
+
 /// What is called, as its teller knows it.
 #[derive(Clone, Copy, Debug)]
 pub enum Target {
@@ -128,6 +137,8 @@ pub enum Thing {
 #[derive(Debug, Default)]
 pub struct Diagram {
     pub lanes: Vec<Lane>,
+    /// Who sits on the lanes' seats one after the other, where a recording tells that.
+    pub sitters: Vec<Sitter>,
     pub things: Vec<Thing>,
     pub arrows: Vec<Arrow>,
     pub rows: u64,

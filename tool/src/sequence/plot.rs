@@ -28,7 +28,7 @@ impl Plot {
             self.tracks.begin(&mut self.sheet);
         }
         if self.sheet.is_begun {
-            self.tracks.see(entry.seat, facts);
+            self.tracks.see(entry.seat, facts, &mut self.sheet);
         }
         self.follow(entry, space, facts);
         self.draw(entry, facts);
@@ -120,8 +120,8 @@ impl Plot {
 
     fn finished(mut self) -> Diagram {
         self.tracks.end(&mut self.sheet);
-        let Sheet { things, rows, .. } = self.sheet;
-        Diagram { lanes: self.tracks.lanes(), things, arrows: self.arrows, rows }
+        let Sheet { things, rows, sitters, .. } = self.sheet;
+        Diagram { lanes: self.tracks.lanes(), sitters, things, arrows: self.arrows, rows }
     }
 }
 

@@ -1,9 +1,10 @@
 // SPDX-License-Identifier: Apache-2.0 OR MIT
 //! A diagram for a terminal, in ASCII.
 use super::labels::row_words;
-use super::model::{Diagram, Doing, Event, Kind, Lane, Row, Thing};
+use super::model::{Diagram, Doing, Event, Kind, Lane, Row, Sitter, Thing};
 use crate::out::Out;
 use std::io::{self, Write};
+use std::iter::Peekable;
 
 /// After how many rows the lanes are headed again.
 const ROWS_A_HEADING: u64 = 40;
@@ -115,9 +116,19 @@ fn put_lanes(to: &mut Vec<u8>, lanes: &[Lane]) -> io::Result<()> {
     Ok(())
 }
 
+/// Has the lanes be those of whoever sits there by this row, which are still to come.
+fn seat<'a>(lanes: &mut [Lane], sitters: &mut Peekable<impl Iterator<Item = &'a Sitter>>, row: u64) {
+    while let Some(it) = sitters.next_if(|it| it.row <= row) {
+        if let Some(lane) = lanes.iter_mut().find(|lane| lane.seat == it.seat) {
+            (lane.pid, lane.name) = (Some(it.pid), it.name.clone());
+        }
+    }
+}
+
 /// Prints a diagram as lines.
 pub fn put(out: &mut Out, diagram: &Diagram) -> io::Result<()> {
     let mut doings = vec![Doing::Gone; diagram.lanes.len()];
+    let (mut lanes, mut sitters) = (diagram.lanes.clone(), diagram.sitters.iter().peekable());
     let mut rows = 0;
     writeln!(out.held, "{LEGEND}")?;
     for thing in &diagram.things {
@@ -126,8 +137,11 @@ pub fn put(out: &mut Out, diagram: &Diagram) -> io::Result<()> {
             Thing::Begins(span) => (span.seat, span.doing),
             Thing::Ends(span) => (span.seat, span.outer),
             Thing::Row(row) => {
+                if rows > 0 && rows % ROWS_A_HEADING == 0 {
+                    seat(&mut lanes, &mut sitters, rows);
+                }
                 if rows % ROWS_A_HEADING == 0 {
-                    put_lanes(&mut out.held, &diagram.lanes)?;
+                    put_lanes(&mut out.held, &lanes)?;
                 }
                 put_row(&mut out.held, diagram, &doings, row)?;
                 rows += 1;

@@ -134,7 +134,7 @@ impl Plot {
             lanes.push(Lane { leader: first.unwrap_or(lane.seat), ..lane });
         }
         lanes.sort_by_key(|it| it.leader);
-        Diagram { lanes, things: self.things, arrows: self.arrows, rows: self.rows }
+        Diagram { lanes, sitters: Vec::new(), things: self.things, arrows: self.arrows, rows: self.rows }
     }
 }
 

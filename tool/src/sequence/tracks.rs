@@ -1,14 +1,16 @@
 // SPDX-License-Identifier: Apache-2.0 OR MIT
 //! What the threads of the seats are doing, step by step, and the sheet on which that is drawn.
 use super::labels::plain;
-use super::model::{Doing, Event, Lane, Row, Span, Thing};
+use super::model::{Doing, Event, Lane, Row, Sitter, Span, Thing};
 use crate::following::{Facts, Space};
 use std::collections::BTreeMap;
+use std::rc::Rc;
 
 /// What was drawn so far.
 #[derive(Debug, Default)]
 pub struct Sheet {
     pub things: Vec<Thing>,
+    pub sitters: Vec<Sitter>,
     pub rows: u64,
     /// Whether the first entry that is drawn was come to.
     pub is_begun: bool,
@@ -41,6 +43,8 @@ struct Track {
     pid: Option<u32>,
     spans: Vec<Span>,
     lane: Option<Lane>,
+    /// Who was seen there last: the process's pid, and what the thread is called.
+    sitter: Option<(u32, Option<Rc<str>>)>,
 }
 
 #[derive(Debug, Default)]
@@ -75,8 +79,8 @@ impl Track {
 }
 
 impl Tracks {
-    /// Gives the seat of an entry a lane, if it has none with a pid yet, and that lane its thread's name.
-    pub fn see(&mut self, seat: u32, facts: &Facts) {
+    /// Gives the seat of an entry a lane, if it has none with a pid yet, and that lane its thread's name. Notes who sits there.
+    pub fn see(&mut self, seat: u32, facts: &Facts, sheet: &mut Sheet) {
         let track = self.seats.entry(seat).or_default();
         if track.lane.as_ref().map_or(true, |it| it.pid.is_none()) {
             track.lane = Some(Lane { seat, pid: facts.pid, leader: seat, name: None });
@@ -85,6 +89,11 @@ impl Tracks {
             if lane.pid == facts.pid {
                 lane.name.get_or_insert_with(|| plain(&person.comm));
             }
+        }
+        let sitter = facts.pid.map(|pid| (pid, facts.person.as_ref().map(|it| it.comm.clone())));
+        if let (Some((pid, comm)), true) = (&sitter, sitter != track.sitter) {
+            sheet.sitters.push(Sitter { row: sheet.rows, seat, pid: *pid, name: comm.as_deref().map(plain) });
+            track.sitter = sitter.clone();
         }
     }
 

@@ -309,7 +309,8 @@ pub fn program() -> Command {
 }
 
 /// What is said of an entry where there is no library.
-pub const NOT_JUDGED: &str = "    not judged: no library that judges, which tools/install brings or HULLPIPPIN_LIBRARY names: \
+pub const NOT_JUDGED: &str =
+    "    not judged: no library that judges, which tools/install brings or HULLPIPPIN_LIBRARY names: \
     /no/such/library: cannot open shared object file: No such file or directory\n";
 
 pub fn run(words: &[&str]) -> Output {
