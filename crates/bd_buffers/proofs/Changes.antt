@@ -1,9 +1,8 @@
 -- Lists with some elements changed or left out.
-use Rattle.std.proofs.Common.{◌≡◌, Bool, true, false, cond, List, [], ◌∷◌, refl, arith, All}
-use Rattle.std.specs.Prelude.{AllPairs, Result, OnOk, OnErr, filter}
-use Rattle.std.proofs.lemmas.List.Elements.{All-cons, All-head, All-tail}
-use Rattle.bd_space.specs.Words.{changed}
+use Rattle.std.proofs.{Common.{All, Bool, List, arith, cond, false, refl, true, [], ◌∷◌, ◌≡◌}, lemmas.List.Elements.{All-cons, All-head, All-tail}}
+use Rattle.std.specs.Prelude.{AllPairs, OnErr, OnOk, Result, filter}
 use Rattle.bd_keys.proofs.Rising.{pairs_head, pairs_tail}
+use Rattle.bd_space.specs.Words.{changed}
 
 -- what each element keeps where those that pass are changed
 pub All_changed : {A : Type 0} (p : A → Bool) (f : A → A) (P : A → Type 0) → ((x : A) → P x → P (f x)) → (xs : List A) → All P xs → All P (changed p f xs)

@@ -1,12 +1,12 @@
 -- Buffers by where they were made.
-use Rattle.std.proofs.Common.{◌≡◌, ◌≢◌, ℕ, ◌<◌, Bool, true, false, cond, List, [], ◌∷◌, ◌++◌, get_or, map, refl, ap, sym, ◌∙◌, arith, All, subst, eq-eqb, ne_eqb}
-use Rattle.std.specs.{Prelude.{◌==◌, ◌||◌, not, find, filter, Some, None, Option, option_map}, Option.{is_some}, List.{list_any}}
-use Rattle.std.proofs.{lemmas.Bool.{eqb-true, eqb-false}, lemmas.List.Folds.{list_any-append}}
-use Rattle.bd_keys.specs.{declared.key.WordKey.{WordKey}, declared.map.WordMap.{WordMap}, Keys.{same_word}, Look.{look}}
-use Rattle.bd_space.specs.{declared.space.Buffer.{Buffer}, Words.{changed}, Windows.{buffers_of}, Freeing.{is_made_at}, Returns.{buffer_in}, ReadItems.{hand_out}}
+use Rattle.std.proofs.{Common.{All, Bool, List, ap, arith, cond, eq-eqb, false, get_or, map, ne_eqb, refl, subst, sym, true, ℕ, [], ◌++◌, ◌<◌, ◌∙◌, ◌∷◌, ◌≡◌, ◌≢◌}, lemmas.Bool.{eqb-false, eqb-true}}
+use Rattle.std.proofs.lemmas.List.Folds.{list_any-append}
+use Rattle.std.specs.{List.{list_any}, Option.{is_some}, Prelude.{None, Option, Some, filter, find, not, option_map, ◌==◌, ◌||◌}}
+use Rattle.bd_buffers.specs.{Homes.{AreHomes, Forgets, home_key}, Rows.{kept}}
+use Rattle.bd_keys.proofs.{Found.{find_gone, find_stays, none_found, tags_more}, Rising.{Rising, distinct, find_none}}
+use Rattle.bd_keys.specs.{Keys.{same_word}, Look.{look}, declared.key.WordKey.{WordKey}, declared.map.WordMap.{WordMap}}
 use Rattle.bd_space.proofs.Keyed.{tags_changed}
-use Rattle.bd_keys.proofs.{Rising.{Rising, distinct, find_none}, Found.{none_found, find_gone, find_stays, tags_more}}
-use Rattle.bd_buffers.specs.{Homes.{home_key, AreHomes, Forgets}, Rows.{kept}}
+use Rattle.bd_space.specs.{Words.{changed}, Freeing.{is_made_at}, ReadItems.{hand_out}, Returns.{buffer_in}, Windows.{buffers_of}, declared.space.Buffer.{Buffer}}
 use Rattle.bd_buffers.proofs.Made.{find_kept, none_of}
 
 -- the keys of two places are the same where the places are

@@ -1,10 +1,10 @@
 -- How the live buffers of one window go with all those of a space, for a table in which the window of each live process p
 -- stands for `buffers_of buffers p`.
-use Rattle.std.proofs.Common.{arith, ◌≡◌, ◌≢◌, ℕ, Bool, true, cond, List, [], ◌∷◌, ◌++◌, refl, ap, sym, ◌∙◌, eq-eqb, ne_eqb}
-use Rattle.std.specs.Prelude.{◌==◌, ◌&&◌, not, find, filter}
-use Rattle.std.proofs.{lemmas.List.{append-nil}, Math.Bool.{and_comm, and-false}, lemmas.Bool.{eqb-true}, lemmas.List.Elements.{filter-append, filter_agree}}
-use Rattle.bd_space.specs.{declared.space.Buffer.{Buffer}, Words.{changed}, Windows.{buffers_of}, Freeing.{pointer, is_made_at}, ReadItems.{hand_out}}
+use Rattle.std.proofs.{Common.{Bool, List, ap, arith, cond, eq-eqb, ne_eqb, refl, sym, true, ℕ, [], ◌++◌, ◌∙◌, ◌∷◌, ◌≡◌, ◌≢◌}, Math.Bool.{and-false, and_comm}, lemmas.Bool.{eqb-true}, lemmas.List.{append-nil}}
+use Rattle.std.proofs.lemmas.List.Elements.{filter-append, filter_agree}
+use Rattle.std.specs.Prelude.{filter, find, not, ◌&&◌, ◌==◌}
 use Rattle.bd_buffers.specs.Buffer.{at_pointer}
+use Rattle.bd_space.specs.{Words.{changed}, Freeing.{is_made_at, pointer}, ReadItems.{hand_out}, Windows.{buffers_of}, declared.space.Buffer.{Buffer}}
 
 abbrev is_in : ℕ → Buffer → Bool
 is_in p b = b.receiver == p

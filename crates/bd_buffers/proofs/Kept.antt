@@ -1,11 +1,10 @@
 -- What a window keeps through each change.
-use Rattle.std.proofs.{lemmas.Grind.{common_steps}, lemmas.List.Elements.{All-push}, lemmas.List.Quantifiers.{all_pairs_push, all_pairs_remove}}
-use Rattle.std.proofs.lemmas.List.Sums.{sum_by-cons}
-use Rattle.std.proofs.Common.{◌≡◌, ℕ, zero, suc, ◌+◌, ◌%◌, ◌<◌, ◌≤◌, Bool, true, false, cond, List, [], ◌∷◌, ◌++◌, length, get_or, refl, ap, sym, ◌∙◌, arith, All}
-use Rattle.std.specs.Prelude.{Ok, Option, Some, None, IsTrue, IfSome, filter, find, remove, sum_by}
-use Rattle.bd_keys.proofs.{Lists.{All_remove}, Found.{found_has}}
-use Rattle.bd_space.specs.{declared.space.Buffer.{Buffer}, Words.{changed}, Windows.{needed, start_for}, ReadItems.{hand_out}}
-use Rattle.bd_buffers.specs.{Buffer.{IsApart, IsPlaced}, Window.{IsInBudget, IsWindow, one_way_size}}
+use Rattle.std.proofs.{Common.{All, Bool, List, arith, cond, false, get_or, length, refl, suc, sym, true, zero, ℕ, [], ◌%◌, ◌++◌, ◌+◌, ◌<◌, ◌∷◌, ◌≡◌, ◌≤◌}, lemmas.Grind.{common_steps}, lemmas.List.Elements.{All-push}}
+use Rattle.std.proofs.{lemmas.List.Quantifiers.{all_pairs_push, all_pairs_remove}, lemmas.List.Sums.{sum_by-cons}}
+use Rattle.std.specs.Prelude.{IfSome, IsTrue, None, Ok, Option, Some, filter, find, remove, sum_by}
+use Rattle.bd_buffers.specs.{Buffer.{IsApart, IsPlaced}, Window.{IsInBudget, IsWindow}}
+use Rattle.bd_keys.proofs.{Found.{found_has}, Lists.{All_remove}}
+use Rattle.bd_space.specs.{Words.{changed}, ReadItems.{hand_out}, Windows.{needed, start_for}, declared.space.Buffer.{Buffer}}
 use Rattle.bd_buffers.proofs.{Changes.{All_changed, pairs_changed}, Places.{given_says}}
 
 -- ---- what those that pass take

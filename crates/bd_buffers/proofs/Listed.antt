@@ -1,10 +1,10 @@
 -- Each live buffer is found by where it begins, through each change.
-use Rattle.std.proofs.{lemmas.Grind.{common_steps}, lemmas.Bool.{eqb-true}, lemmas.List.Elements.{All-push}}
-use Rattle.std.proofs.Common.{◌≡◌, ℕ, ◌-◌, ◌/◌, ◌%◌, ◌<◌, false, cond, List, [], ◌∷◌, ◌++◌, get_or, refl, ap, sym, ◌∙◌, arith, All}
-use Rattle.std.specs.Prelude.{find, Some, None, Option, option_map, slice_index}
-use Rattle.bd_space.specs.{declared.space.Buffer.{Buffer}, Freeing.{pointer, is_made_at}, Returns.{buffer_in}}
+use Rattle.std.proofs.{Common.{All, List, ap, arith, cond, false, refl, sym, ℕ, [], ◌%◌, ◌++◌, ◌-◌, ◌/◌, ◌<◌, ◌∙◌, ◌∷◌, ◌≡◌}, lemmas.Bool.{eqb-true}, lemmas.Grind.{common_steps}, lemmas.List.Elements.{All-push}}
+use Rattle.std.specs.Prelude.{None, Option, Some, find, option_map, slice_index}
+use Rattle.bd_buffers.specs.{Buffer.{IsApart, IsPlaced, at_pointer}, Rows.{kept}, Window.{AreStarts, IsWindow}}
+use Rattle.bd_ground.proofs.Tiling.{apart}
 use Rattle.bd_keys.proofs.Found.{by_key, found_has, none_found}
-use Rattle.bd_buffers.specs.{Buffer.{IsApart, IsPlaced, at_pointer}, Window.{IsWindow, AreStarts}, Rows.{kept}}
+use Rattle.bd_space.specs.{Freeing.{is_made_at, pointer}, Returns.{buffer_in}, declared.space.Buffer.{Buffer}}
 
 -- buffers that lie apart begin with different units
 units_differ : (p n size : ℕ) (b : Buffer) → p % 8 ≡ 0 → 0 < n → IsPlaced size b → IsApart p n b → b.start / 8 ≡ p / 8 → ⊥

@@ -1,14 +1,12 @@
 -- Where a search by a key that rises ends, and what is found where elements come or go.
-use Rattle.std.proofs.Common.{◌≡◌, ℕ, ◌<◌, ◌≤◌, Bool, true, false, cond, List, [], ◌∷◌, length, get_or, map, suc, refl, ap, sym, ◌∙◌, arith, All, ltb}
-use Rattle.std.specs.Prelude.{◌==◌, not, find, filter, Some, None, Option, option_map, MatchOption, Result, Ok, Err}
-use Rattle.std.specs.{List.Sorted.{IsNonDecreasingBy, IsPartitionedBy, IsPartitionPoint, IsBinarySearchResult, IsSearchInRange}, List.{slice_get}, Ordering.{nat_cmp}}
-use Rattle.std.specs.Result.{result_ok}
-use Rattle.std.proofs.{lemmas.Bool.{eqb-true, ltb-true, ltb-false}, lemmas.List.Sorted.{IsPartitionedBy-ltb}, lemmas.List.{length-map}}
-use Rattle.std.proofs.lemmas.Option.{slice_get-get_or}
-use Rattle.std.proofs.Math.ListN as list
-use Rattle.bd_keys.proofs.Rising.{Rising, Distinct, distinct, find_at, find_none, filter_none, rest_differ, pairs_tail}
+use Rattle.std.proofs.{Common.{All, Bool, List, ap, arith, cond, false, get_or, length, ltb, map, refl, suc, sym, true, ℕ, [], ◌<◌, ◌∙◌, ◌∷◌, ◌≡◌, ◌≤◌}, lemmas.Bool.{eqb-true, ltb-false, ltb-true}}
+use Rattle.std.proofs.{lemmas.List.{get_or-map, length-map}, lemmas.List.Sorted.{IsPartitionedBy-ltb}, lemmas.Option.{slice_get-get_or}}
+use Rattle.std.specs.{List.{slice_get}, List.Sorted.{IsBinarySearchResult, IsNonDecreasingBy, IsPartitionPoint, IsPartitionedBy, IsSearchInRange}, Ordering.{nat_cmp}}
+use Rattle.std.specs.{Prelude.{Err, MatchOption, None, Ok, Option, Result, Some, filter, find, not, option_map, ◌==◌}, Result.{result_ok}}
+use Rattle.bd_buffers.specs.Rows.{IsWithout, kept}
+use Rattle.bd_ground.proofs.Tiling.{apart}
+use Rattle.bd_keys.proofs.Rising.{Distinct, Rising, distinct, filter_none, find_at, find_none, pairs_tail, rest_differ}
 use Rattle.bd_keys.proofs.Rising.{searched as by_halves}
-use Rattle.bd_buffers.specs.Rows.{kept, IsWithout}
 
 module _ {A : Type 0} (key : A → ℕ) where
   -- where a search by the key ends
@@ -27,36 +25,29 @@ module _ {A : Type 0} (key : A → ℕ) where
 pub kept_some : {A : Type 0} (keep : A → Bool) (o : Option A) (x : A) → kept keep o ≡ Some x → (o ≡ Some x) × (keep x ≡ true)
 kept_some keep o x e = grind arith
 
-module _ {A : Type 0} (key : A → ℕ) (keep : A → Bool) (m : ℕ) where
-  kept_first : (x : A) (xs : List A) (a b : Bool) → (key x == m) ≡ a → keep x ≡ b → Distinct key (x ∷ xs) → find (λ y. key y == m) (filter keep xs) ≡ kept keep (find (λ y. key y == m) xs)
-      → find (λ y. key y == m) (cond b (x ∷ filter keep xs) (filter keep xs)) ≡ kept keep (cond a (Some x) (find (λ y. key y == m) xs))
-  kept_first x xs true true e f apart rest = ap (λ t. cond t (Some x) (find (λ y. key y == m) (filter keep xs))) e ∙ sym (ap (λ t. cond t (Some x) None) f)
-  kept_first x xs true false e f apart rest =
-      rest ∙ ap (kept keep) (find_none key m xs (rest_differ key m x xs apart (eqb-true (key x) m e))) ∙ sym (ap (λ t. cond t (Some x) None) f)
-  kept_first x xs false true e f apart rest = ap (λ t. cond t (Some x) (find (λ y. key y == m) (filter keep xs))) e ∙ rest
-  kept_first x xs false false e f apart rest = rest
-
-  pub find_kept : (xs : List A) → Distinct key xs → find (λ y. key y == m) (filter keep xs) ≡ kept keep (find (λ y. key y == m) xs)
-  find_kept [] apart = refl
-  find_kept (x ∷ xs) apart = grind (arith, kept_first, pairs_tail, find_kept xs (pairs_tail (λ a b. key a ≡ key b → ⊥) x xs apart))
+pub find_kept : {A : Type 0} (key : A → ℕ) (keep : A → Bool) (m : ℕ) (xs : List A) → Distinct key xs → find (λ y. key y == m) (filter keep xs) ≡ kept keep (find (λ y. key y == m) xs)
+find_kept key keep m [] apart = refl
+find_kept key keep m (x ∷ xs) apart =
+    let rest = find_kept key keep m xs (pairs_tail (λ a b. key a ≡ key b → ⊥) x xs apart) in let none = rest_differ key m x xs apart in grind (arith, eqb-true, find_none)
 
 pub none_of : {A B : Type 0} (f : A → B) (o : Option A) → None ≡ option_map f o → None ≡ o
 none_of f o e = grind arith
 
 -- ---- where one stands, and where places stay
 
+-- where keys rise, the same keys do
+pub same_keys : {A B : Type 0} (key : A → ℕ) (other : B → ℕ) (xs : List A) (ys : List B) → map other ys ≡ map key xs → Rising key xs → Rising other ys
+same_keys key other [] ys e rising i j d lt h = absurd (omega (arith, length-map ys other, ap length e))
+same_keys key other (x ∷ xs) ys e rising i j d lt h =
+    let len : length ys ≡ length (x ∷ xs) = sym (length-map ys other) ∙ ap length e ∙ length-map (x ∷ xs) key in
+    let at : (k : ℕ) → k < length ys → other (get_or ys k d) ≡ key (get_or (x ∷ xs) k x) =
+    λ k lt. sym (get_or-map other ys k d 0 lt) ∙ ap (λ ns. get_or ns k 0) e ∙ get_or-map key (x ∷ xs) k x 0 (omega (arith, len, lt)) in
+    omega (arith, at i (omega (arith, lt, h)), at j h, rising i j x lt (omega (arith, len, h)))
+
 module _ {A : Type 0} (key : A → ℕ) where
   pub look_found : (m : ℕ) (xs : List A) (i : ℕ) → Rising key xs → i < length xs → ((d : A) → key (get_or xs i d) ≡ m) → slice_get xs i ≡ find (λ x. key x == m) xs
   look_found m [] i rising lt at = absurd (omega arith)
   look_found m (x ∷ xs) i rising lt at = slice_get-get_or (x ∷ xs) i x lt ∙ sym (find_at key m (x ∷ xs) i x (distinct key (x ∷ xs) rising) lt at)
-
-  pub same_keys : (xs ys : List A) → map key ys ≡ map key xs → Rising key xs → Rising key ys
-  same_keys xs ys e rising i j d lt h =
-      let len : length ys ≡ length xs = sym (length-map ys key) ∙ ap length e ∙ length-map xs key in
-      let first = sym (list.get_or-map key ys i d) ∙ ap (λ ns. get_or ns i (key d)) e ∙ list.get_or-map key xs i d in
-      let second = sym (list.get_or-map key ys j d) ∙ ap (λ ns. get_or ns j (key d)) e ∙ list.get_or-map key xs j d in
-      let up = rising i j d lt (omega (arith, len, h)) in
-      omega (arith, first, second, up)
 
   -- where the one with a key goes, it is missing
   pub gone_at : (m : ℕ) (xs : List A) (x : A) → Rising key xs → find (λ y. key y == m) xs ≡ Some x → IsWithout x xs (filter (λ y. not (key y == m)) xs)

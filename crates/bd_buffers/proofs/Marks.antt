@@ -1,10 +1,8 @@
 -- Windows stay where a process asks for reports of flooding, or no longer.
-use Rattle.std.proofs.Common.{arith, ◌≡◌, ℕ, ◌+◌, ◌<◌, Bool, true, List, [], ◌∷◌, map, refl, sym, ◌∙◌}
+use Rattle.std.proofs.{Common.{Bool, List, arith, map, refl, true, ℕ, [], ◌+◌, ◌<◌, ◌∙◌, ◌∷◌, ◌≡◌}, lemmas.List.Elements.{All-weaker}}
 use Rattle.std.specs.Prelude.{◌==◌}
-use Rattle.std.proofs.lemmas.List.Elements.{All-weaker}
-use Rattle.bd_space.specs.{declared.space.Process.{Process}, declared.space.Buffer.{Buffer}, Space.{Space}, Words.{changed}, Seats.{lives_in}}
-use Rattle.bd_space.specs.Spam.{detecting, with_spam_detection}
-use Rattle.bd_buffers.specs.{declared.windows.Windows.{Windows}, WindowsStand.{window_of, AreMade, WindowsOf, StandsIn}}
+use Rattle.bd_buffers.specs.{WindowsStand.{AreMade, StandsIn, WindowsOf, window_of}, declared.windows.Windows.{Windows}}
+use Rattle.bd_space.specs.{Words.{changed}, Seats.{lives_in}, Space.{Space}, Spam.{detecting, with_spam_detection}, declared.space.Buffer.{Buffer}, declared.space.Process.{Process}}
 use Rattle.bd_buffers.proofs.Changes.{All_changed, pairs_changed}
 
 module _ (m : Process → Bool) (on : Bool) where

@@ -1,20 +1,15 @@
 -- What a window keeps, through each change.
-use Rattle.std.proofs.Common.{◌≡◌, ℕ, ◌+◌, ◌/◌, ◌<◌, ◌≤◌, Bool, false, List, [], ◌∷◌, ◌++◌, length, get_or, refl, ap, sym, ◌∙◌, subst, Ok, arith, inl, inr, ◌⊎◌, All}
-use Rattle.std.specs.{List.{between}, Prelude.{slice_index, Some, filter, not, option_map}}
-use Rattle.std.proofs.{lemmas.List.{length_push, get_or_push}, lemmas.List.Elements.{All-map, All-push, All-filter}}
+use Rattle.std.proofs.{Common.{All, Bool, List, Ok, ap, arith, false, get_or, inl, inr, length, refl, subst, sym, ℕ, [], ◌++◌, ◌+◌, ◌/◌, ◌<◌, ◌∙◌, ◌∷◌, ◌≡◌, ◌≤◌, ◌⊎◌}, lemmas.List.{get_or_push, length_push}}
+use Rattle.std.proofs.lemmas.List.Elements.{All-filter, All-map, All-push}
+use Rattle.std.specs.{List.{between}, Prelude.{Some, filter, not, option_map, slice_index}}
+use Rattle.bd_buffers.specs.{Buffer.{IsApart, IsPlaced, one_way_share, share_from}, Record.{IsInMemory, all_standing, bare, hand_over, is_record_at, record_in, standing}, Rows.{IsWithout, kept}, Sums.{AreNoted, AreSums}}
+use Rattle.bd_buffers.specs.{Window.{AreStarts, IsWindow, Keeps, Notes, is_free_unit, one_way_size}, declared.ground.Ground.{Ground}, declared.record.Record.{Record}}
+use Rattle.bd_ground.specs.Tiles.{Begins, Tiles, with_span, without}
 use Rattle.bd_keys.proofs.Lists.{All_remove}
-use Rattle.bd_ground.specs.Tiles.{Tiles, Begins, without, with_span}
-use Rattle.bd_space.specs.{declared.space.Buffer.{Buffer}, Words.{changed}, Windows.{needed, start_for}, Freeing.{is_made_at}, Spam.{one_way_from}}
-use Rattle.bd_space.specs.ReadItems.{hand_out}
-use Rattle.bd_buffers.specs.{declared.record.Record.{Record}, declared.ground.Ground.{Ground}}
-use Rattle.bd_buffers.specs.Record.{standing, all_standing, bare, IsInMemory, is_record_at, record_in, hand_over}
-use Rattle.bd_buffers.specs.{Buffer.{IsApart, IsPlaced, one_way_share, share_from}, Rows.{IsWithout}, Sums.{AreNoted, AreSums}}
-use Rattle.bd_buffers.specs.Window.{IsWindow, AreStarts, Notes, Keeps, one_way_size, is_free_unit}
-use Rattle.bd_buffers.proofs.{Changes.{All_changed}, Made.{gone_at}, Places.{IsGiven, given_says}}
-use Rattle.bd_buffers.proofs.{Kept.{window_push, window_handed, window_removed, is_one_way, total_push, total_handed, total_removed}, Listed.{starts_noted}}
-use Rattle.bd_buffers.proofs.Shares.{sums_pushed, sums_handed, sums_without}
-use Rattle.bd_buffers.proofs.Standing.{all_of, all_stay, in_longer, same_standing, pushed_standing, handed_standing, found_standing, kept_standing}
-use Rattle.bd_buffers.proofs.Units.{tiles_more, tiles_handed, tiles_less, taken_units, begins_there}
+use Rattle.bd_space.specs.{Words.{changed}, Freeing.{is_made_at}, ReadItems.{hand_out}, Spam.{one_way_from}, Windows.{needed, start_for}, declared.space.Buffer.{Buffer}}
+use Rattle.bd_buffers.proofs.{Changes.{All_changed}, Kept.{is_one_way, total_handed, total_push, total_removed, window_handed, window_push, window_removed}, Listed.{starts_noted}, Made.{gone_at}, Places.{IsGiven, given_says}}
+use Rattle.bd_buffers.proofs.{Shares.{sums_handed, sums_pushed, sums_without}, Standing.{all_of, all_stay, found_standing, handed_standing, in_longer, kept_standing, pushed_standing, same_standing}}
+use Rattle.bd_buffers.proofs.Units.{begins_there, taken_units, tiles_handed, tiles_less, tiles_more}
 
 -- what all have the last has
 all_last : {A : Type 0} (P : A → Type 0) (xs : List A) (x : A) → All P (xs ++ x ∷ []) → P x

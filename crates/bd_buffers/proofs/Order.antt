@@ -1,11 +1,10 @@
 -- Processes and buffers stay in the order in which they were made.
-use Rattle.std.proofs.{lemmas.Grind.{common_steps}, lemmas.Bool.{false≢true, eqb-true}}
-use Rattle.std.proofs.{lemmas.List.Elements.{All-head, All-tail, All-push, All-weaker, All-filter, filter_passes}, lemmas.List.Quantifiers.{all_pairs_push}}
-use Rattle.std.proofs.{lemmas.List.Kept.{AllPairs-filter}, lemmas.List.Folds.{list_any-append}, lemmas.Map.Views.{any-filter_same}}
-use Rattle.std.proofs.Common.{◌≡◌, ℕ, ◌+◌, ◌<◌, ◌≤◌, Bool, true, List, [], ◌∷◌, ◌++◌, get_or, refl, ap, ◌∙◌, arith, All}
-use Rattle.std.specs.Prelude.{◌==◌, ◌||◌, not, filter}
-use Rattle.bd_space.specs.{declared.space.Process.{Process}, declared.space.Buffer.{Buffer}, Words.{changed}, Seats.{lives_in}, ReadItems.{hand_out}}
+use Rattle.std.proofs.{Common.{All, Bool, List, ap, arith, false, get_or, refl, true, ℕ, [], ◌++◌, ◌+◌, ◌<◌, ◌∙◌, ◌∷◌, ◌≡◌, ◌≤◌}, lemmas.Bool.{eqb-true}, lemmas.Grind.{common_steps}}
+use Rattle.std.proofs.{lemmas.List.Elements.{All-filter, All-head, All-push, All-tail, All-weaker, filter_passes}, lemmas.List.Folds.{list_any-append}, lemmas.List.Kept.{AllPairs-filter}}
+use Rattle.std.proofs.{lemmas.List.Quantifiers.{all_pairs_push}, lemmas.Map.Views.{any-filter_same}}
+use Rattle.std.specs.Prelude.{filter, not, ◌==◌, ◌||◌}
 use Rattle.bd_buffers.specs.WindowsStand.{AreMade}
+use Rattle.bd_space.specs.{Words.{changed}, ReadItems.{hand_out}, Seats.{lives_in}, declared.space.Buffer.{Buffer}, declared.space.Process.{Process}}
 use Rattle.bd_buffers.proofs.Changes.{All_changed, pairs_changed}
 
 -- ---- who lives
@@ -13,12 +12,10 @@ use Rattle.bd_buffers.proofs.Changes.{All_changed, pairs_changed}
 lives_more : (ps : List Process) (q : Process) (r : ℕ) → lives_in ps r ≡ true → lives_in (ps ++ q ∷ []) r ≡ true
 lives_more ps q r e = list_any-append (λ (x : Process). x.made == r) ps (q ∷ []) ∙ ap (λ b. b || lives_in (q ∷ []) r) e
 
-first_below : (q : Process) (b : Bool) (bound r : ℕ) (rest : Bool) → (q.made == r) ≡ b → q.made < bound → (rest ≡ true → r < bound) → (b || rest) ≡ true → r < bound
-first_below q b bound r rest e low more f = search (arith, eqb-true)
-
-pub lives_below : (ps : List Process) (bound r : ℕ) → All (λ q. q.made < bound) ps → lives_in ps r ≡ true → r < bound
-lives_below [] bound r all e = absurd (false≢true e)
-lives_below (q ∷ ps) bound r all e = grind (arith, first_below, All-head, All-tail, lives_below ps bound r (All-tail (λ x. x.made < bound) q ps all))
+pub not_yet : (ps : List Process) (bound : ℕ) → All (λ q. q.made < bound) ps → lives_in ps bound ≡ false
+not_yet [] bound before = refl
+not_yet (q ∷ ps) bound before =
+    let first = All-head (λ x. x.made < bound) q ps before in let rest = not_yet ps bound (All-tail (λ x. x.made < bound) q ps before) in grind (arith, eqb-true)
 
 lives_after : (ps : List Process) (p r : ℕ) → not (r == p) ≡ true → lives_in ps r ≡ true → lives_in (filter (λ q. not (q.made == p)) ps) r ≡ true
 lives_after ps p r other e =

@@ -1,11 +1,10 @@
 -- The least place that fits.
-use Rattle.std.proofs.Common.{subst, ◌≡◌, ℕ, zero, suc, ◌+◌, ◌*◌, ◌/◌, ◌%◌, ◌<◌, ◌≤◌, Bool, true, false, List, refl, ap, sym, ◌∙◌, arith, inl, inr, rules, tests}
-use Rattle.std.specs.Prelude.{Option, Some, None, Result, Ok, Err, option_map, ◌&&◌, IsTrue, IfOk, IfErr}
-use Rattle.std.proofs.{lemmas.List.Sums.{AllPass-from_list_all, list_all-from_AllPass}, lemmas.List.Elements.{All-weaker}, lemmas.Bool.{cases_lt}}
+use Rattle.std.proofs.{Common.{Bool, List, ap, arith, false, inl, inr, refl, rules, subst, suc, sym, tests, true, zero, ℕ, ◌%◌, ◌*◌, ◌+◌, ◌/◌, ◌<◌, ◌∙◌, ◌≡◌, ◌≤◌}, lemmas.Bool.{cases_lt}, lemmas.List.Elements.{All-weaker}}
+use Rattle.std.proofs.lemmas.List.Sums.{AllPass-from_list_all, list_all-from_AllPass}
+use Rattle.std.specs.Prelude.{Err, IfErr, IfOk, IsTrue, None, Ok, Option, Result, Some, option_map, ◌&&◌}
+use Rattle.bd_buffers.specs.{Buffer.{IsApart}, Stands.{CanHold, Stands}, Window.{IsFree, IsInBudget, IsLeastFree, IsWindow, Refuses, one_way_size}, declared.window.Window.{Window}}
+use Rattle.bd_space.specs.{Words.{and_then, least, ok_or, unless, when}, Windows.{fits_in, is_apart, needed, over_budget_in, start_for, start_in}, declared.space.Buffer.{Buffer}}
 use Rattle.bd_uapi.specs.{declared.fault.Cause.{Cause}, declared.fault.Cause.TheVariants.{NoRoom, OverBudget}}
-use Rattle.bd_space.specs.{declared.space.Buffer.{Buffer}, Words.{least, when, ok_or, unless, and_then}}
-use Rattle.bd_space.specs.Windows.{is_apart, fits_in, start_in, over_budget_in, start_for, needed}
-use Rattle.bd_buffers.specs.{Buffer.{IsApart}, declared.window.Window.{Window}, Stands.{CanHold}, Window.{IsFree, IsLeastFree, IsInBudget, Refuses, one_way_size}}
 
 -- ---- the least number that passes
 
@@ -176,6 +175,16 @@ data_too_large size buffers one_way bytes offsets large = sym (too_large size bu
 pub offsets_too_large : (size : ℕ) (buffers : List Buffer) (one_way : Bool) (bytes offsets : ℕ) → size < offsets → Err NoRoom ≡ start_for size buffers one_way (needed bytes offsets)
 offsets_too_large size buffers one_way bytes offsets large = sym (too_large size buffers one_way (needed bytes offsets) (omega arith))
 
+-- the answer in the words of what the window stands for
+pub for_all : (w : Window) (size : ℕ) (live : List Buffer) (one_way : Bool) (n : ℕ) (r : Result ℕ Cause) → r ≡ start_for w.size w.buffers one_way n → Stands w size live
+    → r ≡ start_for size live one_way n
+for_all w size live one_way n r e is = rw (← is.size_is, ← is.buffers_are) e
+
+pub can_take_of : (w : Window) (one_way : Bool) (n : ℕ) (r : Result ℕ Cause) → r ≡ start_for w.size w.buffers one_way n → IfOk r (λ p. CanHold w one_way n p)
+unfolding CanHold
+can_take_of w one_way n (Ok p) e = sym e
+can_take_of w one_way n (Err x) e = tt
+
 pub least_of : (size : ℕ) (buffers : List Buffer) (one_way : Bool) (n : ℕ) (r : Result ℕ Cause) → r ≡ start_for size buffers one_way n → IfOk r (λ p. IsLeastFree size buffers n p)
 least_of size buffers one_way n (Ok p) e = (given_says size buffers one_way n p (sym e)).least
 least_of size buffers one_way n (Err x) e = tt
@@ -192,3 +201,6 @@ cause_of size buffers one_way bytes offsets r e = grind (arith, refused_says)
 pub holds_inside : (w : Window) (one_way : Bool) (n p : ℕ) → CanHold w one_way n p → p + n ≤ w.size
 unfolding CanHold
 holds_inside w one_way n p can = (given_says w.size w.buffers one_way n p can).least.room.inside
+
+pub fits_whole : (size : ℕ) (bs : List Buffer) (n : ℕ) (r : Result ℕ Cause) → IsWindow size bs → IfOk r (λ p. IsLeastFree size bs n p) → IfOk r (λ p. n ≤ 4194304)
+fits_whole size bs n r is least = search arith

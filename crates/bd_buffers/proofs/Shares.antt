@@ -1,11 +1,10 @@
 -- How much of a window the one-way buffers of each sender take, through each change.
-use Rattle.std.proofs.{lemmas.Grind.{common_steps}, lemmas.Bool.{eqb-true}}
-use Rattle.std.proofs.Common.{◌≡◌, ℕ, ◌+◌, ◌≤◌, Bool, cond, List, [], ◌∷◌, ◌++◌, refl, ap, sym, ◌∙◌, arith, eq-eqb}
-use Rattle.std.specs.Prelude.{◌==◌, ◌&&◌, Some, None, unwrap_or}
-use Rattle.bd_space.specs.{declared.space.Buffer.{Buffer}, Words.{changed}, ReadItems.{hand_out}, Spam.{one_way_from}}
+use Rattle.std.proofs.{Common.{Bool, List, ap, arith, cond, eq-eqb, refl, sym, ℕ, [], ◌++◌, ◌+◌, ◌∙◌, ◌∷◌, ◌≡◌, ◌≤◌}, lemmas.Bool.{eqb-true}, lemmas.Grind.{common_steps}}
+use Rattle.std.specs.Prelude.{None, Some, unwrap_or, ◌&&◌, ◌==◌}
+use Rattle.bd_buffers.specs.{Buffer.{one_way_share, share_from}, Rows.{IsWithout}, Sums.{AreNoted, AreSums, noted, sum_at}, Window.{one_way_size}}
 use Rattle.bd_keys.specs.declared.map.WordMap.{WordMap}
-use Rattle.bd_buffers.specs.{Buffer.{one_way_share, share_from}, Rows.{IsWithout}, Sums.{noted, sum_at, AreNoted, AreSums}, Window.{one_way_size}}
-use Rattle.bd_buffers.proofs.Kept.{is_one_way, total_cons, total_push, total_handed, total_removed}
+use Rattle.bd_space.specs.{Words.{changed}, ReadItems.{hand_out}, Spam.{one_way_from}, declared.space.Buffer.{Buffer}}
+use Rattle.bd_buffers.proofs.Kept.{is_one_way, total_cons, total_handed, total_push, total_removed}
 
 -- a one-way call of this sender
 abbrev pub sent_by : ℕ → Buffer → Bool

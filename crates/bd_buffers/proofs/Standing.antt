@@ -1,11 +1,10 @@
 -- Records, and the buffers that they stand for.
-use Rattle.std.proofs.Common.{◌≡◌, ℕ, ◌+◌, ◌<◌, ◌≤◌, Bool, List, [], ◌∷◌, ◌++◌, length, get_or, map, refl, ap, ◌∙◌, subst, arith, All}
-use Rattle.std.specs.{Prelude.{AllPairs, filter, find, not, option_map}, List.{between}}
-use Rattle.std.proofs.{lemmas.List.{length-map, get_or-map, map-append}, lemmas.List.Elements.{All-head, All-tail}, lemmas.List.Edits.{length-between}}
-use Rattle.bd_space.specs.{declared.space.Buffer.{Buffer}, Words.{changed, round_up}, Freeing.{is_made_at}, Returns.{buffer_in}, ReadItems.{hand_out}}
-use Rattle.bd_buffers.specs.declared.record.Record.{Record}
-use Rattle.bd_buffers.specs.Record.{with_bytes, standing, all_standing, IsSized, IsInMemory, is_record_at, record_in, hand_over, made_of_record}
-use Rattle.bd_buffers.specs.WindowsStand.{made_of_buffer}
+use Rattle.std.proofs.{Common.{All, Bool, List, ap, arith, get_or, length, map, refl, subst, sym, ℕ, [], ◌++◌, ◌+◌, ◌<◌, ◌∙◌, ◌∷◌, ◌≡◌, ◌≤◌}, lemmas.List.{get_or-map, length-map, map-append}, lemmas.List.Edits.{length-between}}
+use Rattle.std.proofs.lemmas.List.Elements.{All-head, All-tail}
+use Rattle.std.specs.{List.{between}, Prelude.{AllPairs, filter, find, not, option_map}}
+use Rattle.bd_buffers.specs.{Record.{IsInMemory, IsSized, all_standing, hand_over, is_record_at, made_of_record, record_in, standing, with_bytes}, WindowsStand.{made_of_buffer}, declared.record.Record.{Record}}
+use Rattle.bd_space.specs.{Words.{changed, round_up}, Freeing.{is_made_at}, ReadItems.{hand_out}, Returns.{buffer_in}, declared.space.Buffer.{Buffer}}
+use Rattle.bd_buffers.proofs.Made.{same_keys}
 
 module _ {A B : Type 0} (f : A → B) where
   pub found_of : (r : B → Bool) (xs : List A) → find r (map f xs) ≡ option_map f (find (λ y. r (f y)) xs)
@@ -31,18 +30,13 @@ module _ (m : List ℕ) where
   pub kept_standing : (n : ℕ) (rs : List Record) → all_standing m (filter (λ r. not (is_record_at n r)) rs) ≡ filter (λ b. not (is_made_at n b)) (all_standing m rs)
   kept_standing n rs = filtered_of (standing m) (λ b. not (is_made_at n b)) rs
 
-  -- records stand in the order in which their buffers were made
-  pub rising_records : (rs : List Record) → AllPairs (λ a b. a.made < b.made) (all_standing m rs) → AllPairs (λ a b. a.made < b.made) rs
-  rising_records rs rising i j d lt within =
-      let len = length-map rs (standing m) in
-      let at = rising i j (standing m d) lt (omega (arith, len, within)) in
-      let first = ap made_of_buffer (get_or-map (standing m) rs i d (standing m d) (omega (arith, lt, within))) in
-      let second = ap made_of_buffer (get_or-map (standing m) rs j d (standing m d) within) in
-      omega (arith, at, first, second)
-
   pub made_standing : (rs : List Record) → map made_of_buffer (all_standing m rs) ≡ map made_of_record rs
   made_standing [] = refl
   made_standing (r ∷ rs) = ap (λ ms. r.made ∷ ms) (made_standing rs)
+
+  -- records stand in the order in which their buffers were made
+  pub rising_records : (rs : List Record) → AllPairs (λ a b. a.made < b.made) (all_standing m rs) → AllPairs (λ a b. a.made < b.made) rs
+  rising_records rs rising = same_keys made_of_buffer made_of_record (all_standing m rs) rs (sym (made_standing rs)) rising
 
   pub pushed_standing : (rs : List Record) (r : Record) → all_standing m (rs ++ r ∷ []) ≡ all_standing m rs ++ standing m r ∷ []
   pushed_standing rs r = map-append (standing m) rs (r ∷ [])

@@ -1,16 +1,15 @@
 -- What is free of a window, by bytes and by units of eight.
-use Rattle.std.proofs.{lemmas.Grind.{common_steps}, Math.Bool.{and_assoc, and-true, and-false, or-true, or-false}, lemmas.Bool.{cases_lt, cases_Bool, false≢true}}
-use Rattle.std.proofs.{lemmas.List.Elements.{All-weaker, All-cons}, lemmas.List.Sums.{AllPass-from_list_all, list_all-from_AllPass}}
-use Rattle.std.proofs.Common.{◌≡◌, ℕ, zero, suc, ◌+◌, ◌-◌, ◌*◌, ◌/◌, ◌%◌, ◌<◌, ◌≤◌, Bool, true, false, cond, List, [], ◌∷◌, ◌++◌, length, get_or, map, refl, ap, sym, ◌∙◌, subst, arith, inl, inr, All}
-use Rattle.std.specs.{Prelude.{◌&&◌, ◌||◌, not, remove, Some, None, AllPairs}, List.{list_all}}
+use Rattle.std.proofs.Common.{All, Bool, List, ap, arith, false, get_or, inl, inr, length, map, refl, subst, suc, sym, true, zero, ℕ, [], ◌%◌, ◌*◌, ◌++◌, ◌+◌, ◌-◌, ◌/◌, ◌<◌, ◌∙◌, ◌∷◌, ◌≡◌, ◌≤◌}
+use Rattle.std.proofs.{Math.Bool.{and-false, and-true, and_assoc, or-false, or-true}, lemmas.Bool.{cases_Bool, cases_lt, false≢true}, lemmas.Grind.{common_steps}, lemmas.List.Elements.{All-cons, All-weaker}}
+use Rattle.std.proofs.lemmas.List.Sums.{AllPass-from_list_all, list_all-from_AllPass}
+use Rattle.std.specs.{List.{list_all}, Prelude.{AllPairs, None, Some, not, remove, ◌&&◌, ◌||◌}}
+use Rattle.bd_buffers.specs.{Buffer.{IsApart, IsPlaced}, Holes.{Covered, IsHoles, Spaced, in_bytes}, Rows.{IsWithout}, Window.{IsFree, IsLeastFree, IsWindow, is_free_byte, is_free_unit}}
+use Rattle.bd_ground.proofs.{Bits.{IsIn, IsOut, clash, in_or_out, is_in_false, is_in_true}, Tiling.{begins_of_least, tiles_same}}
+use Rattle.bd_ground.specs.{Tiles.{Begins, IsLeastRun, IsRun, Tiles, is_in, with_span, without}, declared.spans.Spans.{Spans}}
 use Rattle.bd_keys.proofs.Rising.{pairs_head, pairs_tail}
-use Rattle.bd_ground.specs.{declared.spans.Spans.{Spans}, Tiles.{Tiles, IsRun, IsLeastRun, Begins, is_in, without, with_span}}
+use Rattle.bd_space.specs.{Words.{changed}, ReadItems.{hand_out}, Windows.{start_in}, declared.space.Buffer.{Buffer}}
+use Rattle.bd_buffers.proofs.Places.{no_start_at, start_at}
 use Rattle.bd_ground.specs.Holes as units
-use Rattle.bd_ground.proofs.{Bits.{IsIn, IsOut, in_or_out, is_in_true, is_in_false, clash}, Tiling.{tiles_same, begins_of_least}}
-use Rattle.bd_space.specs.{declared.space.Buffer.{Buffer}, Words.{changed}, Windows.{start_in}, ReadItems.{hand_out}}
-use Rattle.bd_buffers.specs.{Buffer.{IsApart, IsPlaced}, Holes.{Covered, Spaced, IsHoles, in_bytes}, Rows.{IsWithout}}
-use Rattle.bd_buffers.specs.Window.{IsFree, IsLeastFree, IsWindow, is_free_byte, is_free_unit}
-use Rattle.bd_buffers.proofs.Places.{start_at, no_start_at}
 
 -- ---- a byte that no buffer has
 

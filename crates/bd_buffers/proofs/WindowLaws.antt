@@ -1,7 +1,7 @@
 -- From before a step into it.
 use Rattle.std.proofs.Common.{arith}
+use Rattle.bd_buffers.specs.{WindowsStand.{StandsFor, StandsIn}, declared.windows.Windows.{Windows}}
 use Rattle.bd_space.specs.Space.{Space}
-use Rattle.bd_buffers.specs.{declared.windows.Windows.{Windows}, WindowsStand.{StandsFor, StandsIn}}
 use Rattle.bd_buffers.proofs.Order.{made_wider}
 
 -- what stands before a step stands within it

@@ -50,7 +50,7 @@ fn index_among(rows: &[Record], made: u64) -> Option<usize>
 }
 
 // The index of the row of the live buffer made there.
-#[tactic(auto, using(crate::proofs::Live::missed_row))]
+#[tactic(auto, using(crate::proofs::Live::missed_row, crate::proofs::Live::no_row))]
 fn index_of(rows: &[Record], made: u64) -> Option<usize>
     requires order { AllPairs (λ a b. a.made < b.made) rows.now }
     ensures { MatchOption result (record_in (live rows.now) made ≡ None) (IsLiveRow rows.now made) }

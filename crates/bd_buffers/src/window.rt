@@ -127,6 +127,7 @@ impl Window {
     /// Where a buffer for data and offsets of these sizes in bytes would begin: at the least multiple of 8 with
     /// room for both, each rounded up to a multiple of 8, and for 8 bytes at least. `NoRoom` where there is none;
     /// then `OverBudget` where one-way buffers would take more than half of the window.
+    #[tactic(auto, using(crate::proofs::Places::for_all, crate::proofs::Places::can_take_of, crate::proofs::Places::least_of, crate::proofs::Places::budget_of, crate::proofs::Places::cause_of))]
     #[inline(always)]
     pub fn start_for(&self, one_way: bool, data_size: u64, offsets_size: u64) -> Result<u32, Cause>
         ensures computed { WindowTells (Stands self.now) result

@@ -80,6 +80,7 @@ impl Windows {
     }
 
     /// Takes in the empty window of the process that the step at this place opens. Takes no memory.
+    #[tactic(auto, unfolding(crate::specs::WindowsStand::window_room))]
     pub fn open(&mut self, place: u64, window: Window)
         requires room { 1 ≤ window_room self.old }
         ensures { (s : Space) (pid euid size : ℕ) → StandsFor self.old s → s.steps ≡ place → Stands window size []
@@ -108,6 +109,7 @@ impl Windows {
     /// Where a buffer for data and offsets of these sizes in bytes would begin in the window of a process.
     /// `NoRoom` where there is no room or no such process; `OverBudget` where one-way buffers would take more than
     /// half of the window.
+    #[tactic(auto, using(crate::proofs::AllWindows::can_add_of))]
     #[inline(always)]
     pub fn start_for(
         &self,
@@ -142,7 +144,7 @@ impl Windows {
     }
 
     /// Makes room for one more buffer of a size at a place in the window of a process. All stays as it was, also on an `Err`.
-    #[tactic(auto, using(crate::proofs::AllWindows::stay, crate::proofs::AllWindows::stay_seen, crate::proofs::Homes::homes_same))]
+    #[tactic(auto, using(crate::proofs::AllWindows::stay, crate::proofs::AllWindows::stay_seen, crate::proofs::Homes::homes_same, crate::proofs::Changes::refused), unfolding(crate::specs::WindowsStand::CanAdd, crate::specs::WindowsStand::HasBufferRoom))]
     #[inline(always)]
     pub fn reserve_buffer(&mut self, p: u64, start: u32, size: u32) -> Result<(), AllocError>
         ensures stands { Makes (StandsFor self.old) (StandsFor self.new) (λ s. s) }
@@ -160,6 +162,7 @@ impl Windows {
     }
 
     /// Takes a buffer into its receiver's window, at a place that it can take it at. Takes no memory.
+    #[tactic(auto, unfolding(crate::specs::WindowsStand::HasBufferRoom))]
     #[inline(always)]
     pub fn add(&mut self, buffer: Lent<'_>)
         requires room { HasBufferRoom self.old buffer.receiver buffer.start buffer.size }
@@ -262,6 +265,7 @@ impl Windows {
     }
 
     /// Marks the buffer that is handed over by reading these work items, if any.
+    #[tactic(auto, using(crate::proofs::AllWindows::none_handed_by), unfolding(bd_space::specs::ReadItems::read_by))]
     #[inline(always)]
     pub fn hand_out(&mut self, made: Option<u64>)
         ensures { (s : Space) (seat : ℕ) (ws : List Work) → StandsIn self.old s

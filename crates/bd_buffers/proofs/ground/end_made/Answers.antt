@@ -1,8 +1,7 @@
-use Rattle.std.proofs.Common.{◌∙◌, List, ap, sym, subst, arith}
-use Rattle.bd_keys.proofs.{Rising.{filter_none}, Found.{none_found}}
-use Rattle.bd_buffers.specs.{declared.record.Record.{Record}, Buffer.{IsPlaced, one_way_share}, Record.{standing, all_standing, is_record_at, made_of_record}}
-use Rattle.bd_buffers.specs.Window.{Keeps}
-use Rattle.bd_buffers.proofs.{Kept.{is_one_way, total_removed}, Shares.{share_there}, Units.{filled, before_tail}, Noted.{gone_of, keeps_without}}
+use Rattle.std.proofs.Common.{List, Some, ap, arith, subst, sym, ◌∙◌}
+use Rattle.bd_buffers.specs.{Buffer.{IsPlaced, one_way_share}, Record.{all_standing, is_record_at, made_of_record, standing}, Window.{Keeps}, declared.record.Record.{Record}}
+use Rattle.bd_keys.proofs.{Found.{none_found}, Rising.{filter_none}}
+use Rattle.bd_buffers.proofs.{Kept.{is_one_way, total_removed}, Noted.{gone_of, keeps_without}, Shares.{share_there}, Units.{before_tail, filled}}
 use Rattle.bd_buffers.proofs.ground.end_made.Goals as goal
 
 pub release-requires-clause-share : goal.release-requires-clause-share

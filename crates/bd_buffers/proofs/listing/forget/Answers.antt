@@ -1,7 +1,6 @@
-use Rattle.std.proofs.Common.{◌≡◌, ℕ, ◌+◌, ◌<◌, ◌∙◌, None, List, length, get_or, ap, cond, map, take, sym, subst, true, false}
-use Rattle.std.proofs.lemmas.List.{append-nil, map_push}
+use Rattle.std.proofs.{Common.{List, None, ap, cond, false, get_or, length, map, subst, sym, take, true, ℕ, ◌+◌, ◌<◌, ◌∙◌, ◌≡◌}, lemmas.List.{append-nil, map_push}}
+use Rattle.bd_buffers.specs.{Homes.{Forgets, home_key}, Record.{made_of_record}, Rows.{live, live_places, lives}, declared.record.Record.{Record}}
 use Rattle.bd_keys.specs.{Keys.{same_word}, Look.{look}, declared.key.WordKey.{WordKey}, declared.map.WordMap.{WordMap}}
-use Rattle.bd_buffers.specs.{declared.record.Record.{Record}, Homes.{home_key, Forgets}, Record.{made_of_record}, Rows.{lives, live, live_places}}
 use Rattle.bd_buffers.proofs.{Homes.{forgets_more}, Live.{next_live}}
 use Rattle.bd_buffers.proofs.listing.forget.Goals as goal
 use Rattle.bd_buffers.proofs.listing.forget.Goals.{then-is_live, else-is_live}

@@ -1,4 +1,4 @@
-use Rattle.std.proofs.Common.{◌≡◌, ◌++◌, take}
+use Rattle.std.proofs.Common.{take, ◌++◌, ◌≡◌}
 use Rattle.bd_buffers.specs.Rows.{live_places}
 use Rattle.bd_buffers.proofs.listing.list_made.Given as goal
 

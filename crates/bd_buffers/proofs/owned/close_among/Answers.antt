@@ -1,6 +1,5 @@
-use Rattle.std.proofs.Common.{rules, tests, not}
-use Rattle.std.proofs.lemmas.Fn.{filter_same}
-use Rattle.bd_buffers.specs.{declared.owned.OwnedWindow.{OwnedWindow}, WindowsStand.{is_owned_by}}
+use Rattle.std.proofs.{Common.{not, rules, tests}, lemmas.Fn.{filter_same}}
+use Rattle.bd_buffers.specs.{WindowsStand.{is_owned_by}, declared.owned.OwnedWindow.{OwnedWindow}}
 use Rattle.bd_buffers.proofs.owned.close_among.Goals as goal
 
 pub returns : goal.returns

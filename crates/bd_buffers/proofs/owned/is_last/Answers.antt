@@ -1,8 +1,6 @@
-use Rattle.std.proofs.Common.{◌<◌, sym}
-use Rattle.std.proofs.lemmas.Bool.{ltb-true, lt-ltb}
-use Rattle.bd_keys.proofs.Rising.{newest_all}
+use Rattle.std.proofs.{Common.{Some, sym}, lemmas.Bool.{lt-ltb, ltb-true}}
 use Rattle.bd_buffers.specs.declared.owned.OwnedWindow.{OwnedWindow}
-use Rattle.bd_buffers.proofs.Owners.{last_has}
+use Rattle.bd_keys.proofs.Rising.{newest_all, newest_last}
 use Rattle.bd_buffers.proofs.owned.is_last.Goals as goal
 
 pub returns-in-Some : goal.returns-in-Some
@@ -11,5 +9,5 @@ returns-in-Some c =
     let w = c.in-Some.w.now in
     let last = sym c.in-Some.ensures.value in (
       λ t. newest_all (λ (x : OwnedWindow). x.owner) windows w c.args.owner c.requires.order last (ltb-true _ _ t),
-      λ all. lt-ltb _ _ (last_has (λ (x : OwnedWindow). x.owner < c.args.owner) windows w last all),
+      λ all. lt-ltb _ _ (newest_last (λ (x : OwnedWindow). x.owner) windows w c.args.owner last all),
     )

@@ -1,6 +1,7 @@
-use Rattle.std.proofs.Common.{◌∙◌, sym}
-use Rattle.bd_keys.proofs.Rising.{find_none}
+use Rattle.std.proofs.Common.{Some, sym, ◌∙◌}
+use Rattle.std.specs.Prelude.{None}
 use Rattle.bd_buffers.specs.declared.owned.OwnedWindow.{OwnedWindow}
+use Rattle.bd_keys.proofs.Rising.{find_none}
 use Rattle.bd_buffers.proofs.{Made.{look_found}, Owners.{look_copied}}
 use Rattle.bd_buffers.proofs.owned.owned_by.Goals as goal
 

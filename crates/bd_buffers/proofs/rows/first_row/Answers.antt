@@ -1,5 +1,4 @@
-use Rattle.std.proofs.Common.{ltb, rules}
-use Rattle.std.proofs.lemmas.List.Sorted.{IsPartitionPoint-from_clause}
+use Rattle.std.proofs.{Common.{ltb, rules}, lemmas.List.Sorted.{IsPartitionPoint-from_clause}}
 use Rattle.bd_buffers.specs.declared.record.Record.{Record}
 use Rattle.bd_keys.proofs.Rising.{non_decreasing}
 use Rattle.bd_buffers.proofs.Made.{searched}

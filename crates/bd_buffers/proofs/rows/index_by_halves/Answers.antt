@@ -1,5 +1,4 @@
-use Rattle.std.proofs.Common.{rules}
-use Rattle.std.proofs.lemmas.List.Sorted.{answers_always}
+use Rattle.std.proofs.{Common.{rules}, lemmas.List.Sorted.{answers_always}}
 use Rattle.bd_buffers.specs.declared.record.Record.{Record}
 use Rattle.bd_buffers.proofs.Made.{halved}
 use Rattle.bd_buffers.proofs.rows.index_by_halves.Goals as goal

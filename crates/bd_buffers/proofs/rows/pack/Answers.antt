@@ -1,6 +1,5 @@
-use Rattle.std.proofs.Common.{rules, tests, ap, ◌∙◌, subst, sym}
-use Rattle.std.proofs.lemmas.Fn.{filter_same}
-use Rattle.bd_buffers.specs.Rows.{lives, live, AreRows}
+use Rattle.std.proofs.{Common.{ap, rules, subst, sym, tests, ◌∙◌}, lemmas.Fn.{filter_same}}
+use Rattle.bd_buffers.specs.Rows.{AreRows, live, lives}
 use Rattle.bd_buffers.proofs.Live.{packed_live, packed_rows}
 use Rattle.bd_buffers.proofs.rows.pack.Goals as goal
 

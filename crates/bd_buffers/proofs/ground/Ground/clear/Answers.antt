@@ -1,4 +1,4 @@
-use Rattle.std.proofs.Common.{[], refl, arith}
+use Rattle.std.proofs.Common.{arith, refl, []}
 use Rattle.bd_buffers.specs.Window.{is_free_unit}
 use Rattle.bd_buffers.proofs.ground.Ground.clear.Goals as goal
 

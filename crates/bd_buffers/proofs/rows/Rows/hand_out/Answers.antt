@@ -1,10 +1,10 @@
-use Rattle.std.proofs.Common.{◌≡◌, ◌∙◌, ap, sym, subst}
+use Rattle.std.proofs.Common.{Some, ap, subst, sym, ◌∙◌, ◌≡◌}
 use Rattle.std.specs.Prelude.{None}
-use Rattle.bd_space.specs.Words.{changed}
-use Rattle.bd_space.proofs.Keyed.{changed_none}
+use Rattle.bd_buffers.specs.{Record.{hand_over, is_record_at, made_of_record, record_in}, Rows.{AreRows, live}, declared.rows.Rows.{Rows}}
 use Rattle.bd_keys.proofs.Found.{none_found}
-use Rattle.bd_buffers.specs.{declared.rows.Rows.{Rows}, Record.{is_record_at, hand_over, made_of_record, record_in}, Rows.{live, AreRows}}
-use Rattle.bd_buffers.proofs.Live.{one_changed, handed_live, handed_rows}
+use Rattle.bd_space.proofs.Keyed.{changed_none}
+use Rattle.bd_space.specs.Words.{changed}
+use Rattle.bd_buffers.proofs.Live.{handed_live, handed_rows, one_changed}
 use Rattle.bd_buffers.proofs.rows.Rows.hand_out.Goals as goal
 
 all_changed : (c : goal.After-hand_out_at) → c.hand_out_at.new.rows.items ≡ changed (is_record_at c.args.made) hand_over c.self.inside.rows.items

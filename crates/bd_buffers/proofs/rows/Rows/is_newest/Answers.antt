@@ -1,7 +1,6 @@
-use Rattle.std.proofs.Common.{◌≡◌, ◌-◌, ◌<◌, ap, sym, length, subst, List, All, Some}
+use Rattle.std.proofs.{Common.{All, List, Some, ap, length, subst, sym, ◌-◌, ◌<◌, ◌≡◌}, lemmas.Bool.{lt-ltb, ltb-true}, lemmas.List.Elements.{All-filter}}
 use Rattle.std.specs.List.{slice_get}
-use Rattle.std.proofs.{lemmas.Bool.{ltb-true, lt-ltb}, lemmas.List.Elements.{All-filter}}
-use Rattle.bd_buffers.specs.{declared.record.Record.{Record}, declared.rows.Rows.{Rows}, Rows.{lives, live}}
+use Rattle.bd_buffers.specs.{Rows.{live, lives}, declared.record.Record.{Record}, declared.rows.Rows.{Rows}}
 use Rattle.bd_keys.proofs.Rising.{newest_all}
 use Rattle.bd_buffers.proofs.Live.{last_below}
 use Rattle.bd_buffers.proofs.rows.Rows.is_newest.Goals as goal

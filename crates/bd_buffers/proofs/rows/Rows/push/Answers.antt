@@ -1,5 +1,5 @@
-use Rattle.std.proofs.Common.{◌≡◌, ◌∙◌, ◌<◌, ◌++◌, ◌∷◌, [], ap, sym, subst, true, not, ne_eqb, List, All, arith}
-use Rattle.bd_buffers.specs.{declared.record.Record.{Record}, declared.rows.Rows.{Rows}, Rows.{lives, live, AreRows}}
+use Rattle.std.proofs.Common.{All, List, ap, arith, ne_eqb, not, subst, sym, true, [], ◌++◌, ◌<◌, ◌∙◌, ◌∷◌, ◌≡◌}
+use Rattle.bd_buffers.specs.{Rows.{AreRows, live, lives}, declared.record.Record.{Record}, declared.rows.Rows.{Rows}}
 use Rattle.bd_buffers.proofs.Live.{more_live, pushed_rows}
 use Rattle.bd_buffers.proofs.rows.Rows.push.Goals as goal
 

@@ -1,7 +1,7 @@
-use Rattle.std.proofs.Common.{◌≡◌, ◌∙◌, ap, sym}
-use Rattle.std.specs.Prelude.{None, Some, not, filter}
-use Rattle.bd_keys.proofs.{Rising.{filter_none}, Found.{none_found}}
-use Rattle.bd_buffers.specs.{declared.rows.Rows.{Rows}, Record.{is_record_at, made_of_record, record_in}, Rows.{live}}
+use Rattle.std.proofs.Common.{ap, sym, ◌∙◌, ◌≡◌}
+use Rattle.std.specs.Prelude.{None, Some, filter, not}
+use Rattle.bd_buffers.specs.{Record.{is_record_at, made_of_record, record_in}, Rows.{live}, declared.rows.Rows.{Rows}}
+use Rattle.bd_keys.proofs.{Found.{none_found}, Rising.{filter_none}}
 use Rattle.bd_buffers.proofs.Live.{end_left, found_row}
 use Rattle.bd_buffers.proofs.rows.Rows.take.Goals as goal
 

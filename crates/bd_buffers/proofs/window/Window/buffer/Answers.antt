@@ -1,8 +1,8 @@
-use Rattle.std.proofs.Common.{arith, ◌≡◌, ◌∙◌, ap, sym, Some}
+use Rattle.std.proofs.Common.{Some, ap, arith, sym, ◌∙◌, ◌≡◌}
 use Rattle.std.specs.Prelude.{option_map}
-use Rattle.bd_space.specs.{declared.space.Buffer.{Buffer}, Freeing.{is_made_at}, Returns.{buffer_in}}
+use Rattle.bd_buffers.specs.Record.{IsInMemory, all_standing, is_record_at, standing}
 use Rattle.bd_keys.proofs.Found.{found_has}
-use Rattle.bd_buffers.specs.Record.{standing, all_standing, IsInMemory, is_record_at}
+use Rattle.bd_space.specs.{Freeing.{is_made_at}, Returns.{buffer_in}, declared.space.Buffer.{Buffer}}
 use Rattle.bd_buffers.proofs.{Kept.{found_placed}, Standing.{found_standing}}
 use Rattle.bd_buffers.proofs.window.Window.buffer.Goals as goal
 

@@ -1,8 +1,8 @@
-use Rattle.std.proofs.Common.{◌-◌, ◌/◌, ◌≡◌, ◌∙◌, ℕ, List, ap, sym, find, refl, cond, eq-eqb, ne_eqb, Some, None}
+use Rattle.std.proofs.Common.{List, None, Some, ap, cond, eq-eqb, find, ne_eqb, refl, sym, ℕ, ◌-◌, ◌/◌, ◌∙◌, ◌≡◌}
 use Rattle.std.specs.Prelude.{Option, slice_index}
-use Rattle.bd_space.specs.{declared.space.Buffer.{Buffer}, Freeing.{pointer}, Returns.{buffer_in}}
-use Rattle.bd_buffers.specs.{declared.window.Window.{Window}, declared.record.Record.{Record}, declared.ground.Ground.{Ground}, Window.{Keeps}, Buffer.{at_pointer}}
-use Rattle.bd_buffers.specs.{Record.{all_standing}, Stands.{Stands, WindowTells}, Rows.{kept}}
+use Rattle.bd_buffers.specs.{Buffer.{at_pointer}, Record.{all_standing}, Rows.{kept}, Stands.{Stands, WindowTells}, Sums.{noted}, Window.{Keeps}, WindowsStand.{seen}, declared.ground.Ground.{Ground}}
+use Rattle.bd_buffers.specs.{declared.record.Record.{Record}, declared.window.Window.{Window}}
+use Rattle.bd_space.specs.{Freeing.{pointer}, Returns.{buffer_in}, declared.space.Buffer.{Buffer}}
 use Rattle.bd_buffers.proofs.Listed.{by_start}
 use Rattle.bd_buffers.proofs.window.Window.buffer_at_pointer.Goals as goal
 

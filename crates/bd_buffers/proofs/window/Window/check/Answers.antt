@@ -1,5 +1,5 @@
 use Rattle.std.proofs.Common.{subst}
-use Rattle.bd_buffers.specs.{declared.window.Window.{Window}, Holes.{IsHoles}, Record.{all_standing}, Window.{is_free_unit}}
+use Rattle.bd_buffers.specs.{Holes.{IsHoles}, Record.{all_standing}, Window.{is_free_unit}, declared.window.Window.{Window}}
 use Rattle.bd_buffers.proofs.Units.{holes_are}
 use Rattle.bd_buffers.proofs.window.Window.check.Goals as goal
 

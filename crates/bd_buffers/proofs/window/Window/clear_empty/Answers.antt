@@ -1,6 +1,5 @@
-use Rattle.std.proofs.Common.{◌≡◌, List, [], ◌∷◌, length, refl, ap, sym, subst, ◌∙◌, arith}
-use Rattle.std.proofs.lemmas.Bool.{eqb-true}
-use Rattle.bd_buffers.specs.{declared.record.Record.{Record}, declared.window.Window.{Window}, Record.{all_standing}, Rows.{live}, Window.{Keeps}}
+use Rattle.std.proofs.{Common.{List, ap, arith, length, refl, subst, sym, [], ◌∙◌, ◌∷◌, ◌≡◌}, lemmas.Bool.{eqb-true}}
+use Rattle.bd_buffers.specs.{Record.{all_standing}, Rows.{live}, Window.{Keeps}, declared.record.Record.{Record}, declared.window.Window.{Window}}
 use Rattle.bd_buffers.proofs.window.Window.clear_empty.Goals as goal
 use Rattle.bd_buffers.proofs.window.Window.clear_empty.Goals.{After-clear}
 

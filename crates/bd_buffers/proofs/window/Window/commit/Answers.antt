@@ -1,9 +1,8 @@
-use Rattle.std.proofs.Common.{sym, ◌∙◌, ap, subst, arith, [], ◌∷◌, ◌++◌, ◌+◌, ◌/◌, All, refl, ◌<◌, ℕ}
+use Rattle.std.proofs.Common.{All, ap, arith, refl, subst, sym, ℕ, [], ◌++◌, ◌+◌, ◌/◌, ◌<◌, ◌∙◌, ◌∷◌}
+use Rattle.bd_buffers.specs.{Record.{all_standing, standing}, Stands.{CanHold}, Window.{Keeps, is_free_unit}, declared.ground.Ground.{Ground}, declared.window.Window.{Window}}
 use Rattle.bd_ground.specs.Tiles.{HasRoom}
-use Rattle.bd_space.specs.{declared.space.Buffer.{Buffer}, Spam.{one_way_from}}
-use Rattle.bd_buffers.specs.{declared.window.Window.{Window}, declared.ground.Ground.{Ground}, Record.{standing, all_standing}, Stands.{CanHold}}
-use Rattle.bd_buffers.specs.Window.{Keeps, is_free_unit}
-use Rattle.bd_buffers.proofs.{Standing.{all_of}, Noted.{is_new, begins, with_new, keeps_pushed}}
+use Rattle.bd_space.specs.{Spam.{one_way_from}, declared.space.Buffer.{Buffer}}
+use Rattle.bd_buffers.proofs.{Noted.{begins, is_new, keeps_pushed, with_new}, Standing.{all_of}}
 use Rattle.bd_buffers.proofs.window.Window.commit.Goals as goal
 
 pub lay-record-requires-clause-inside : goal.lay-record-requires-clause-inside

@@ -1,7 +1,7 @@
-use Rattle.std.proofs.Common.{◌∙◌, ap}
+use Rattle.std.proofs.Common.{ap, ◌∙◌}
 use Rattle.std.specs.Prelude.{filter, not}
-use Rattle.bd_space.specs.{declared.space.Buffer.{Buffer}, Freeing.{is_made_at}}
-use Rattle.bd_buffers.specs.{declared.window.Window.{Window}, Record.{all_standing}}
+use Rattle.bd_buffers.specs.{Record.{all_standing}, declared.window.Window.{Window}}
+use Rattle.bd_space.specs.{Freeing.{is_made_at}, declared.space.Buffer.{Buffer}}
 use Rattle.bd_buffers.proofs.Standing.{kept_standing}
 use Rattle.bd_buffers.proofs.window.Window.free.Goals as goal
 

@@ -1,5 +1,5 @@
-use Rattle.std.proofs.Common.{sym, subst, List}
-use Rattle.bd_buffers.specs.{declared.record.Record.{Record}, Window.{Keeps}}
+use Rattle.std.proofs.Common.{List, subst, sym}
+use Rattle.bd_buffers.specs.{Window.{Keeps}, declared.record.Record.{Record}}
 use Rattle.bd_buffers.proofs.Noted.{keeps_handed}
 use Rattle.bd_buffers.proofs.window.Window.hand_out.Goals as goal
 

@@ -1,7 +1,6 @@
-use Rattle.std.proofs.Common.{◌<◌, ap, sym, subst, List, All}
-use Rattle.std.proofs.lemmas.List.Elements.{All-map}
+use Rattle.std.proofs.{Common.{All, List, ap, subst, sym, ◌<◌}, lemmas.List.Elements.{All-map}}
+use Rattle.bd_buffers.specs.{Record.{standing}, declared.window.Window.{Window}}
 use Rattle.bd_space.specs.declared.space.Buffer.{Buffer}
-use Rattle.bd_buffers.specs.{declared.window.Window.{Window}, Record.{standing}}
 use Rattle.bd_buffers.proofs.Standing.{all_of}
 use Rattle.bd_buffers.proofs.window.Window.is_newest.Goals as goal
 

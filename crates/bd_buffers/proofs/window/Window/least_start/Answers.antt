@@ -1,6 +1,7 @@
-use Rattle.std.proofs.Common.{ap, ◌∙◌, arith}
+use Rattle.std.proofs.Common.{Some, ap, arith, ◌∙◌}
+use Rattle.std.specs.Prelude.{None}
+use Rattle.bd_buffers.specs.{Record.{all_standing}, Window.{is_free_unit}, declared.window.Window.{Window}}
 use Rattle.bd_space.specs.Windows.{start_in}
-use Rattle.bd_buffers.specs.{declared.window.Window.{Window}, Record.{all_standing}, Window.{is_free_unit}}
 use Rattle.bd_buffers.proofs.Units.{start_found, start_missed}
 use Rattle.bd_buffers.proofs.window.Window.least_start.Goals as goal
 

@@ -1,5 +1,5 @@
-use Rattle.std.proofs.Common.{List, [], refl, sym, subst, arith}
-use Rattle.bd_buffers.specs.{declared.record.Record.{Record}, declared.ground.Ground.{Ground}, Window.{Keeps, is_free_unit}}
+use Rattle.std.proofs.Common.{List, arith, refl, subst, sym, []}
+use Rattle.bd_buffers.specs.{Window.{Keeps, is_free_unit}, declared.ground.Ground.{Ground}, declared.record.Record.{Record}}
 use Rattle.bd_buffers.proofs.Kept.{window_empty}
 use Rattle.bd_buffers.proofs.window.Window.new.Goals as goal
 

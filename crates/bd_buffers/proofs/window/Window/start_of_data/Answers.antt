@@ -1,7 +1,7 @@
 use Rattle.std.proofs.Common.{ap, subst, ◌∙◌}
-use Rattle.bd_space.specs.Windows.{start_for, needed}
 use Rattle.bd_buffers.specs.{Window.{IsWindow}, declared.window.Window.{Window}}
-use Rattle.bd_buffers.proofs.{Places.{least_of}, AllWindows.{fits_whole}}
+use Rattle.bd_space.specs.Windows.{needed, start_for}
+use Rattle.bd_buffers.proofs.Places.{fits_whole, least_of}
 use Rattle.bd_buffers.proofs.window.Window.start_of_data.Goals as goal
 
 pub returns-clause-fits : goal.returns-clause-fits

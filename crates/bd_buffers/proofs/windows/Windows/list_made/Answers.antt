@@ -1,7 +1,7 @@
-use Rattle.std.proofs.Common.{arith, ◌∙◌, ap, sym, ◌+◌, ◌++◌, append-nil, map}
-use Rattle.std.proofs.lemmas.List.{length-map}
+use Rattle.std.proofs.{Common.{Some, ap, append-nil, arith, map, sym, ◌++◌, ◌+◌, ◌∙◌}, lemmas.List.{length-map}}
+use Rattle.std.specs.Prelude.{None}
 use Rattle.bd_buffers.specs.WindowsStand.{buffers_held, made_of_buffer}
-use Rattle.bd_buffers.proofs.{Changes.{on_ok, on_err}, AllWindows.{held}}
+use Rattle.bd_buffers.proofs.{AllWindows.{held}, Changes.{on_err, on_ok}}
 use Rattle.bd_buffers.proofs.windows.Windows.list_made.Goals as goal
 
 pub returns-in-None-clause-listed : goal.returns-in-None-clause-listed
