@@ -1,13 +1,12 @@
 -- Buffers by where they were made.
-use Rattle.std.proofs.{Common.{All, Bool, List, ap, arith, cond, eq-eqb, false, get_or, map, ne_eqb, refl, subst, sym, true, ℕ, [], ◌++◌, ◌<◌, ◌∙◌, ◌∷◌, ◌≡◌, ◌≢◌}, lemmas.Bool.{eqb-false, eqb-true}}
-use Rattle.std.proofs.lemmas.List.Folds.{list_any-append}
-use Rattle.std.specs.{List.{list_any}, Option.{is_some}, Prelude.{None, Option, Some, filter, find, not, option_map, ◌==◌, ◌||◌}}
+use Rattle.std.proofs.{Common.{All, Bool, List, arith, cond, eq-eqb, false, get_or, map, ne_eqb, refl, sym, ℕ, [], ◌++◌, ◌<◌, ◌∙◌, ◌∷◌, ◌≡◌, ◌≢◌}, lemmas.Bool.{eqb-true}, lemmas.List.Folds.{list_any-append}}
+use Rattle.std.specs.{List.{list_any}, Option.{is_some}, Prelude.{None, Option, Some, filter, not, option_map, ◌==◌, ◌||◌}}
 use Rattle.bd_buffers.specs.{Homes.{AreHomes, Forgets, home_key}, Rows.{kept}}
 use Rattle.bd_keys.proofs.{Found.{find_gone, find_stays, none_found, tags_more}, Rising.{Rising, distinct, find_none}}
 use Rattle.bd_keys.specs.{Keys.{same_word}, Look.{look}, declared.key.WordKey.{WordKey}, declared.map.WordMap.{WordMap}}
 use Rattle.bd_space.proofs.Keyed.{tags_changed}
 use Rattle.bd_space.specs.{Words.{changed}, Freeing.{is_made_at}, ReadItems.{hand_out}, Returns.{buffer_in}, Windows.{buffers_of}, declared.space.Buffer.{Buffer}}
-use Rattle.bd_buffers.proofs.Made.{find_kept, none_of}
+use Rattle.bd_buffers.proofs.Made.{find_kept}
 
 -- the keys of two places are the same where the places are
 key_word : (p q : ℕ) → same_word (home_key p) (home_key q) ≡ (p == q)
@@ -30,14 +29,11 @@ found_kept keep bs m rising = find_kept made_of keep m bs (distinct made_of bs r
 -- ---- where there is no home, or another's
 
 pub none_home : (homes : WordMap ℕ) (bs : List Buffer) (m : ℕ) → AreHomes homes bs → look homes (home_key m) ≡ None → NoneAt m bs
-none_home homes bs m are none = none_found (is_made_at m) bs (sym (none_of (λ (b : Buffer). b.receiver) (buffer_in bs m) (sym none ∙ are m)))
+none_home homes bs m are none = let at = are m in let missed = none_found (is_made_at m) bs in grind arith
 
 pub others_home : (homes : WordMap ℕ) (bs : List Buffer) (m p r : ℕ) → Rising made_of bs → AreHomes homes bs → look homes (home_key m) ≡ Some p → r ≢ p → NoneAt m (buffers_of bs r)
 others_home homes bs m p r rising are home other =
-    none_found (is_made_at m) (buffers_of bs r) (found_kept (λ b. b.receiver == r) bs m rising ∙ elsewhere (buffer_in bs m) (sym home ∙ are m))
-  where
-    elsewhere : (o : Option Buffer) → Some p ≡ home_of o → kept (λ b. b.receiver == r) o ≡ None
-    elsewhere o e = search arith
+    none_found (is_made_at m) (buffers_of bs r) (let at = are m in let left = found_kept (λ b. b.receiver == r) bs m rising in grind (arith, eqb-true))
 
 -- ---- where there is its own
 
@@ -48,24 +44,27 @@ home_finds homes bs m p rising are home = grind (arith, found_kept, eq-eqb)
 
 pub homes_noted : (homes left : WordMap ℕ) (bs : List Buffer) (b : Buffer) → AreHomes homes bs → All (λ x. x.made < b.made) bs
     → ((k : WordKey) → look left k ≡ cond (same_word (home_key b.made) k) (Some b.receiver) (look homes k)) → AreHomes left (bs ++ b ∷ [])
-homes_noted homes left bs b are before put = λ m.
-    put (home_key m) ∙ ap (λ t. cond t (Some b.receiver) (look homes (home_key m))) (key_word b.made m) ∙ ap (cond (b.made == m) (Some b.receiver)) (are m)
-    ∙ tags_more made_of (λ x. x.receiver) bs b m
-    (find_none made_of b.made bs (λ k d lt. (let low = before k d lt in ne_eqb (get_or bs k d).made b.made (λ e. absurd (omega (arith, e, low))))))
+homes_noted homes left bs b are before put m =
+    let none = find_none made_of b.made bs (λ k d lt. (let low = before k d lt in ne_eqb (get_or bs k d).made b.made (λ e. absurd (omega (arith, e, low))))) in
+    let more = tags_more made_of (λ x. x.receiver) bs b m none in
+    let key = key_word b.made m in
+    let at = are m in
+    let here = put (home_key m) in
+    cc
 
 pub homes_forgotten : (homes left : WordMap ℕ) (bs : List Buffer) (m : ℕ) → AreHomes homes bs
     → ((k : WordKey) → look left k ≡ cond (same_word (home_key m) k) None (look homes k)) → AreHomes left (filter (λ b. not (is_made_at m b)) bs)
-homes_forgotten homes left bs m are gone = λ n. gone (home_key n) ∙ ap (λ t. cond t None (look homes (home_key n))) (key_word m n) ∙ at n (m == n) refl
-  where
-    at : (n : ℕ) (t : Bool) → (m == n) ≡ t → cond t None (look homes (home_key n)) ≡ home_of (buffer_in (filter (λ b. not (is_made_at m b)) bs) n)
-    at n true e =
-        let P : ℕ → Type 0 = λ k. find (is_made_at k) (filter (λ b. not (is_made_at m b)) bs) ≡ None in
-        sym (ap home_of (subst P (eqb-true m n e) (find_gone made_of m bs)))
-    at n false e = are n ∙ sym (ap home_of (find_stays made_of m n bs (eqb-false m n e)))
+homes_forgotten homes left bs m are gone n =
+    let here = gone (home_key n) in
+    let key = key_word m n in
+    let at = are n in
+    let went = find_gone made_of m bs in
+    let stays = find_stays made_of m n bs in
+    grind (arith, eqb-true)
 
 any_made : (bs : List Buffer) (m : ℕ) → list_any (λ n. n == m) (map made_of bs) ≡ is_some (buffer_in bs m)
 any_made [] m = refl
-any_made (b ∷ bs) m = elim (b.made == m) as (λ t. (t || list_any (λ n. n == m) (map made_of bs)) ≡ is_some (cond t (Some b) (buffer_in bs m))) [ true ↦ refl | false ↦ any_made bs m ]
+any_made (b ∷ bs) m = grind (arith, any_made bs m)
 
 -- one process's buffers go
 pub homes_closed : (homes left : WordMap ℕ) (bs : List Buffer) (p : ℕ) → Rising made_of bs → AreHomes homes bs → Forgets (map made_of (buffers_of bs p)) homes left

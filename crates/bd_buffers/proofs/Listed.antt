@@ -1,6 +1,6 @@
 -- Each live buffer is found by where it begins, through each change.
-use Rattle.std.proofs.{Common.{All, List, ap, arith, cond, false, refl, sym, ℕ, [], ◌%◌, ◌++◌, ◌-◌, ◌/◌, ◌<◌, ◌∙◌, ◌∷◌, ◌≡◌}, lemmas.Bool.{eqb-true}, lemmas.Grind.{common_steps}, lemmas.List.Elements.{All-push}}
-use Rattle.std.specs.Prelude.{None, Option, Some, find, option_map, slice_index}
+use Rattle.std.proofs.{Common.{All, List, arith, false, refl, ℕ, [], ◌%◌, ◌++◌, ◌-◌, ◌/◌, ◌<◌, ◌∷◌, ◌≡◌}, lemmas.Bool.{eqb-true}, lemmas.Grind.{common_steps}, lemmas.List.Elements.{All-push}}
+use Rattle.std.specs.Prelude.{None, Option, Some, find, slice_index}
 use Rattle.bd_buffers.specs.{Buffer.{IsApart, IsPlaced, at_pointer}, Rows.{kept}, Window.{AreStarts, IsWindow}}
 use Rattle.bd_ground.proofs.Tiling.{apart}
 use Rattle.bd_keys.proofs.Found.{by_key, found_has, none_found}
@@ -23,16 +23,11 @@ by_start size p bs starts o window are e = at (find (at_pointer p) bs) refl
     m : ℕ
     m = slice_index starts ((p - 65536) / 8)
 
-    none : (r : Option Buffer) → r ≡ buffer_in bs m → All (λ x. at_pointer p x ≡ false) bs → kept (at_pointer p) r ≡ None
-    none None f all = refl
-    none (Some b) f all = ap (λ t. cond t (Some b) None) (found_has (is_made_at m) (λ x. at_pointer p x ≡ false) bs b (sym f) all).0
-
     at : (r : Option Buffer) → find (at_pointer p) bs ≡ r → kept (at_pointer p) o ≡ r
-    at None f = none o e (none_found (at_pointer p) bs f)
+    at None f = let none = none_found (at_pointer p) bs f in let has = found_has (is_made_at m) (λ x. at_pointer p x ≡ false) bs in grind arith
     at (Some b) f =
         let has = found_has (at_pointer p) (λ x. slice_index starts (x.start / 8) ≡ x.made) bs b f are in
         let here = eqb-true (pointer b) p has.1 in
-        let unit : (p - 65536) / 8 ≡ b.start / 8 = omega (arith, here) in
-        let made : Some m ≡ option_map (λ (x : Buffer). x.made) (find (at_pointer p) bs) =
-        ap (λ n. Some n) (ap (slice_index starts) unit ∙ has.0) ∙ sym (ap (option_map (λ (x : Buffer). x.made)) f) in
-        ap (kept (at_pointer p)) (e ∙ by_key (λ (x : Buffer). x.made) (at_pointer p) bs m window.in_order made ∙ f) ∙ ap (λ t. cond t (Some b) None) has.1
+        let unit : (p - 65536) / 8 ≡ b.start / 8 = omega arith in
+        let found = by_key (λ (x : Buffer). x.made) (at_pointer p) bs m window.in_order in
+        grind arith

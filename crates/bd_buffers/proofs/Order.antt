@@ -40,13 +40,7 @@ pub made_kept : (bound : ℕ) (ps : List Process) (keep : Buffer → Bool) (bs :
 made_kept bound ps keep bs is = search (arith, AllPairs-filter, All-filter)
 
 pub made_handed : (bound : ℕ) (ps : List Process) (p : Buffer → Bool) (bs : List Buffer) → AreMade bound ps bs → AreMade bound ps (changed p hand_out bs)
-made_handed bound ps p bs is = record {
-  processes_in_order = is.processes_in_order;
-  processes_before = is.processes_before;
-  buffers_in_order = pairs_changed (λ (a : Buffer) (b : Buffer). a.made < b.made) p hand_out (λ a b h. h) (λ a b h. h) bs is.buffers_in_order;
-  buffers_before = All_changed p hand_out (λ b. b.made < bound) (λ b h. h) bs is.buffers_before;
-  received = All_changed p hand_out (λ b. lives_in ps b.receiver ≡ true) (λ b h. h) bs is.received;
-}
+made_handed bound ps p bs is = search (arith, All_changed, pairs_changed)
 
 pub process_gone : (bound p : ℕ) (ps : List Process) (bs : List Buffer) → AreMade bound ps bs
     → AreMade bound (filter (λ q. not (q.made == p)) ps) (filter (λ b. not (b.receiver == p)) bs)

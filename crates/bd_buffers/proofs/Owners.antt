@@ -1,5 +1,5 @@
 -- Windows by whose they are: their owners rise.
-use Rattle.std.proofs.{Common.{All, Bool, List, ap, arith, cond, false, get_or, length, ltb, map, refl, subst, sym, true, ℕ, [], ◌<◌, ◌∙◌, ◌∷◌, ◌≡◌}, lemmas.Bool.{ltb-false, ltb-true}, lemmas.List.Elements.{All-map}}
+use Rattle.std.proofs.{Common.{All, Bool, List, ap, arith, get_or, length, ltb, map, refl, subst, sym, ℕ, [], ◌<◌, ◌∙◌, ◌∷◌, ◌≡◌}, lemmas.Bool.{ltb-false, ltb-true}, lemmas.List.Elements.{All-map}}
 use Rattle.std.proofs.{lemmas.List.Kept.{AllPairs-filter}, lemmas.Option.{slice_get_past, slice_get_read}}
 use Rattle.std.specs.{List.{slice_get}, Prelude.{IfSome, Option, filter, is_some, option_copied}}
 use Rattle.bd_buffers.specs.{Owners.{AreInOrder}, WindowsStand.{ProcessWindow, is_of, seen, window_of, with_buffers}, declared.owned.OwnedWindow.{OwnedWindow}}
@@ -27,10 +27,7 @@ owners_seen (w ∷ ws) = ap (λ ns. w.owner ∷ ns) (owners_seen ws)
 
 owners_one : (f : List Buffer → List Buffer) (p : ℕ) (xs : List ProcessWindow) → map (λ (x : ProcessWindow). x.owner) (changed (is_of p) (with_buffers f) xs) ≡ map (λ (x : ProcessWindow). x.owner) xs
 owners_one f p [] = refl
-owners_one f p (x ∷ xs) =
-    let head : (cond (is_of p x) (with_buffers f x) x).owner ≡ x.owner = elim (is_of p x) as (λ b. (cond b (with_buffers f x) x).owner ≡ x.owner) [ true ↦ refl | false ↦ refl ] in
-    let rest = owners_one f p xs in
-    cc
+owners_one f p (x ∷ xs) = grind (arith, owners_one f p xs)
 
 pub order_one : (f : List Buffer → List Buffer) (p : ℕ) (ws new : List OwnedWindow) → map seen new ≡ changed (is_of p) (with_buffers f) (map seen ws) → AreInOrder ws → AreInOrder new
 order_one f p ws new e order =

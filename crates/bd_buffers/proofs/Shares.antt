@@ -1,6 +1,6 @@
 -- How much of a window the one-way buffers of each sender take, through each change.
-use Rattle.std.proofs.{Common.{Bool, List, ap, arith, cond, eq-eqb, refl, sym, ℕ, [], ◌++◌, ◌+◌, ◌∙◌, ◌∷◌, ◌≡◌, ◌≤◌}, lemmas.Bool.{eqb-true}, lemmas.Grind.{common_steps}}
-use Rattle.std.specs.Prelude.{None, Some, unwrap_or, ◌&&◌, ◌==◌}
+use Rattle.std.proofs.{Common.{Bool, List, ap, arith, eq-eqb, refl, sym, ℕ, [], ◌++◌, ◌+◌, ◌∙◌, ◌∷◌, ◌≡◌, ◌≤◌}, lemmas.Bool.{eqb-true}}
+use Rattle.std.specs.Prelude.{◌&&◌, ◌==◌}
 use Rattle.bd_buffers.specs.{Buffer.{one_way_share, share_from}, Rows.{IsWithout}, Sums.{AreNoted, AreSums, noted, sum_at}, Window.{one_way_size}}
 use Rattle.bd_keys.specs.declared.map.WordMap.{WordMap}
 use Rattle.bd_space.specs.{Words.{changed}, ReadItems.{hand_out}, Spam.{one_way_from}, declared.space.Buffer.{Buffer}}
@@ -12,33 +12,19 @@ sent_by m b = b.one_way && (b.sender == m)
 
 -- where one buffer ended
 pub from_without : (m : ℕ) (b : Buffer) (bs new : List Buffer) → IsWithout b bs new → one_way_from new m + share_from m b ≡ one_way_from bs m
-from_without m b bs new gone =
-    let less = total_removed (sent_by m) bs gone.index b gone.within in
-    let own = ap (share_from m) (gone.at b) in
-    let rest = ap (λ xs. one_way_from xs m) gone.left in
-    omega (arith, less, own, rest)
+from_without m b bs new gone = let less = total_removed (sent_by m) bs gone.index b gone.within in let own = gone.at b in let rest = gone.left in grind arith
 
 -- ---- one sender's are no more than all
 
-share_le : (m : ℕ) (b : Buffer) (one_way mine : Bool) → b.one_way ≡ one_way → (b.sender == m) ≡ mine → share_from m b ≤ one_way_share b
-share_le m b one_way mine e f = search arith
-
 pub from_within : (m : ℕ) (bs : List Buffer) → one_way_from bs m ≤ one_way_size bs
 from_within m [] = omega arith
-from_within m (x ∷ bs) = grind (arith, common_steps, total_cons, is_one_way, share_le, from_within m bs)
-
--- its own sender's sum has all that a buffer adds
-pub own_share : (b : Buffer) → share_from b.sender b ≡ one_way_share b
-own_share b = search (arith, eq-eqb)
+from_within m (x ∷ bs) = let rest = from_within m bs in let own = total_cons (sent_by m) x bs in let all = total_cons is_one_way x bs in grind arith
 
 -- ---- sums as they are noted
 
-told_by : (n : ℕ) (t : Bool) → (n == 0) ≡ t → unwrap_or (cond t None (Some n)) 0 ≡ n
-told_by n t e = search (arith, eqb-true)
-
 -- the sum of each sender
 pub at_sender : (sums : WordMap ℕ) (f : ℕ → ℕ) → AreNoted sums f → (m : ℕ) → sum_at sums m ≡ f m
-at_sender sums f is m = ap (λ o. unwrap_or o 0) (is m) ∙ told_by (f m) (f m == 0) refl
+at_sender sums f is m = let noted = is m in grind (arith, eqb-true)
 
 -- ---- the sums of a window
 
@@ -54,7 +40,4 @@ sums_without b bs new sums gone is = λ m. is m ∙ ap noted (sym (from_without 
 -- a live buffer's share is in its sender's sum
 pub share_there : (b : Buffer) (bs new : List Buffer) (sums : WordMap ℕ) → IsWithout b bs new → AreSums bs sums → one_way_share b ≤ sum_at sums b.sender
 share_there b bs new sums gone is =
-    let sum = at_sender sums (one_way_from bs) is b.sender in
-    let less = from_without b.sender b bs new gone in
-    let own = own_share b in
-    omega (arith, sum, less, own)
+    let sum = at_sender sums (one_way_from bs) is b.sender in let less = from_without b.sender b bs new gone in grind (arith, eq-eqb)

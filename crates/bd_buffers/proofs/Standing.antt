@@ -1,5 +1,5 @@
 -- Records, and the buffers that they stand for.
-use Rattle.std.proofs.{Common.{All, Bool, List, ap, arith, get_or, length, map, refl, subst, sym, ℕ, [], ◌++◌, ◌+◌, ◌<◌, ◌∙◌, ◌∷◌, ◌≡◌, ◌≤◌}, lemmas.List.{get_or-map, length-map, map-append}, lemmas.List.Edits.{length-between}}
+use Rattle.std.proofs.{Common.{All, Bool, List, ap, arith, get_or, length, map, refl, subst, sym, ℕ, [], ◌++◌, ◌+◌, ◌<◌, ◌∷◌, ◌≡◌, ◌≤◌}, lemmas.List.{get_or-map, length-map, map-append}, lemmas.List.Edits.{length-between}}
 use Rattle.std.proofs.lemmas.List.Elements.{All-head, All-tail}
 use Rattle.std.specs.{List.{between}, Prelude.{AllPairs, filter, find, not, option_map}}
 use Rattle.bd_buffers.specs.{Record.{IsInMemory, IsSized, all_standing, hand_over, is_record_at, made_of_record, record_in, standing, with_bytes}, WindowsStand.{made_of_buffer}, declared.record.Record.{Record}}
@@ -46,10 +46,7 @@ module _ (m : List ℕ) where
 pub same_standing : (m n : List ℕ) (rs : List Record) → All (λ r. standing n r ≡ standing m r) rs → all_standing n rs ≡ all_standing m rs
 same_standing m n [] all = refl
 same_standing m n (r ∷ rs) all =
-    let P : Record → Type 0 = λ x. standing n x ≡ standing m x in
-    let head = All-head P r rs all in
-    let rest = same_standing m n rs (All-tail P r rs all) in
-    ap (λ b. b ∷ all_standing n rs) head ∙ ap (λ bs. standing m r ∷ bs) rest
+    let head = All-head (λ x. standing n x ≡ standing m x) r rs all in let rest = same_standing m n rs (All-tail (λ x. standing n x ≡ standing m x) r rs all) in cc
 
 pub standing_kept : (m n : List ℕ) (r : Record) → between r.start (r.start + r.data_size) n ≡ between r.start (r.start + r.data_size) m
     → between (r.start + round_up r.data_size) (r.start + round_up r.data_size + r.offsets_size) n ≡ between (r.start + round_up r.data_size) (r.start + round_up r.data_size + r.offsets_size) m → standing n r ≡ standing m r

@@ -112,7 +112,7 @@ impl Window {
     }
 
     // The place of a new buffer for data and offsets of these sizes.
-    #[tactic(auto, using(crate::proofs::Places::data_too_large, crate::proofs::Places::offsets_too_large))]
+    #[tactic(auto, using(crate::proofs::Places::too_large))]
     fn start_of_data(&self, one_way: bool, data_size: u64, offsets_size: u64) -> Result<u32, Cause>
         ensures computed { result ≡ start_for self.now.size self.now.buffers one_way (needed data_size offsets_size) }
         ensures fits { IfOk result (λ p. needed data_size offsets_size ≤ 4194304) }
