@@ -1,6 +1,6 @@
 -- Buffers by where they were made.
 use Rattle.std.proofs.{Common.{All, Bool, List, arith, cond, eq-eqb, false, get_or, map, ne_eqb, refl, sym, ℕ, [], ◌++◌, ◌<◌, ◌∙◌, ◌∷◌, ◌≡◌, ◌≢◌}, lemmas.Bool.{eqb-true}, lemmas.List.Folds.{list_any-append}}
-use Rattle.std.specs.{List.{list_any}, Option.{is_some}, Prelude.{None, Option, Some, filter, not, option_map, ◌==◌, ◌||◌}}
+use Rattle.std.specs.{List.{list_any}, Option.{is_some}, Prelude.{None, Option, Some, filter, not, ◌==◌, ◌||◌}}
 use Rattle.bd_buffers.specs.{Homes.{AreHomes, Forgets, home_key}, Rows.{kept}}
 use Rattle.bd_keys.proofs.{Found.{find_gone, find_stays, none_found, tags_more}, Rising.{Rising, distinct, find_none}}
 use Rattle.bd_keys.specs.{Keys.{same_word}, Look.{look}, declared.key.WordKey.{WordKey}, declared.map.WordMap.{WordMap}}
@@ -18,9 +18,6 @@ NoneAt m bs = All (λ b. (b.made == m) ≡ false) bs
 
 abbrev pub made_of : Buffer → ℕ
 made_of b = b.made
-
-abbrev home_of : Option Buffer → Option ℕ
-home_of o = option_map (λ (b : Buffer). b.receiver) o
 
 -- what of the buffer made there is among those kept
 pub found_kept : (keep : Buffer → Bool) (bs : List Buffer) (m : ℕ) → Rising made_of bs → buffer_in (filter keep bs) m ≡ kept keep (buffer_in bs m)

@@ -1,10 +1,10 @@
 -- What rows have, and what each change leaves of it.
-use Rattle.std.proofs.Common.{All, Bool, List, None, Option, Some, ap, arith, cond, drop, false, get_or, length, refl, set, subst, suc, sym, take, true, zero, ℕ, [], ◌++◌, ◌+◌, ◌-◌, ◌<◌, ◌∙◌, ◌∷◌, ◌≡◌, ◌≤◌}
-use Rattle.std.proofs.{Math.ListN.{get_or-append}, Math.Seq.{drop-cons, take-suc}, lemmas.Bool.{le-leb, lt-leb}, lemmas.Grind.{common_steps}, lemmas.List.{append-nil, drop_all, get_or_push, length-map, length_push}}
+use Rattle.std.proofs.Common.{All, Bool, List, None, Option, Some, ap, arith, cond, drop, false, get_or, length, refl, set, subst, suc, sym, true, zero, ℕ, [], ◌++◌, ◌+◌, ◌-◌, ◌<◌, ◌∙◌, ◌∷◌, ◌≡◌, ◌≤◌}
+use Rattle.std.proofs.{Math.ListN.{get_or-append}, Math.Seq.{drop-cons}, lemmas.Bool.{le-leb, lt-leb}, lemmas.List.{append-nil, drop_all, get_or_push, length-map, length_push}}
 use Rattle.std.proofs.{lemmas.List.Elements.{All-head, All-tail, filter-append, filter_passes}, lemmas.List.Kept.{AllPairs-filter}, lemmas.List.Quantifiers.{all_pairs_push}}
 use Rattle.std.proofs.lemmas.Option.{get_or_from_slice_get, slice_get-get_or, slice_get_cases}
 use Rattle.std.specs.{List.{slice_get}, Option.{option_to_list}, Prelude.{filter, find, nat_le, not, option_map, unwrap_or}}
-use Rattle.bd_buffers.specs.{Record.{hand_over, is_record_at, made_of_record, record_in}, Rows.{AreRows, IsLiveRow, ended, ends_empty, kept, live, live_places, lives}, declared.record.Record.{Record}}
+use Rattle.bd_buffers.specs.{Record.{hand_over, is_record_at, made_of_record, record_in}, Rows.{AreRows, IsLiveRow, ended, ends_empty, live, live_places, lives}, declared.record.Record.{Record}}
 use Rattle.bd_keys.proofs.Rising.{AllOthers, Rising, distinct, find_at, find_none, newest_all}
 use Rattle.bd_space.proofs.Keyed.{changed_at, length_changed, pairs_changed}
 use Rattle.bd_space.specs.Words.{changed}
@@ -54,16 +54,14 @@ rows_below rows n is all k d lt =
 -- in a live row
 pub found_row : (n : ℕ) (rows : List Record) (i : ℕ) (d : Record) → InOrder rows → IsLiveRow rows n i → record_in (live rows) n ≡ Some (get_or rows i d)
 found_row n rows i d rising is =
-    find_kept made_of_record lives n rows (distinct made_of_record rows rising)
-    ∙ ap (kept lives) (find_at made_of_record n rows i d (distinct made_of_record rows rising) is.within is.made_there)
-    ∙ ap (λ t. cond t (Some (get_or rows i d)) None) (is.lives_there d)
+    let apart = distinct made_of_record rows rising in
+    let there = find_at made_of_record n rows i d apart is.within is.made_there in let left = find_kept made_of_record lives n rows apart in let t = is.lives_there d in grind arith
 
 -- in an empty one, and where there is none
 pub missed_row : (n : ℕ) (rows : List Record) (i : ℕ) (d : Record) → InOrder rows → i < length rows → ((e : Record) → (get_or rows i e).made ≡ n) → lives (get_or rows i d) ≡ false
     → record_in (live rows) n ≡ None
 missed_row n rows i d rising lt at dead =
-    find_kept made_of_record lives n rows (distinct made_of_record rows rising)
-    ∙ ap (kept lives) (find_at made_of_record n rows i d (distinct made_of_record rows rising) lt at) ∙ ap (λ t. cond t (Some (get_or rows i d)) None) dead
+    let apart = distinct made_of_record rows rising in let there = find_at made_of_record n rows i d apart lt at in let left = find_kept made_of_record lives n rows apart in grind arith
 
 pub no_row : (n : ℕ) (rows : List Record) → InOrder rows → AllOthers made_of_record n rows → record_in (live rows) n ≡ None
 no_row n rows rising none = let found = find_none made_of_record n rows none in let left = find_kept made_of_record lives n rows (distinct made_of_record rows rising) in grind arith
@@ -108,7 +106,7 @@ get_last : (rows : List Record) (r : Record) → slice_get (rows ++ r ∷ []) (l
 get_last rows r = let len = length_push rows r in let at = get_or_push rows r r (length rows) in grind (arith, slice_get-get_or)
 
 pub more_live : (rows : List Record) (b : Record) (t : Bool) → lives b ≡ t → live (rows ++ b ∷ []) ≡ live rows ++ cond t (b ∷ []) []
-more_live rows b t e = filter-append lives rows (b ∷ []) ∙ ap (λ c. live rows ++ cond c (b ∷ []) []) e
+more_live rows b t e = simp (filter-append lives rows (b ∷ []), e)
 
 pub pushed_rows : (rows : List Record) (b : Record) → AreRows rows → lives b ≡ true → All (λ x. x.made < b.made) (live rows) → AreRows (rows ++ b ∷ [])
 pushed_rows rows b is t newest = record {
@@ -140,10 +138,6 @@ pub handed_live : (n : ℕ) (rows : List Record) → live (changed (is_record_at
 handed_live n rows = filter_changed lives (is_record_at n) hand_over (λ x. refl) rows
 
 -- ---- row after row
-
--- the live buffers of one row more
-pub next_live : (rows : List Record) (i : ℕ) (d : Record) (t : Bool) → i < length rows → lives (get_or rows i d) ≡ t → live (take (i + 1) rows) ≡ live (take i rows) ++ cond t (get_or rows i d ∷ []) []
-next_live rows i d t lt e = grind (arith, common_steps, take-suc, more_live)
 
 -- the first from a place on is the first in the rows that aren't before it
 pub from_point : (from : ℕ) (rows : List Record) (i : ℕ) → ((k : ℕ) (d : Record) → k < i → k < length rows → (get_or rows k d).made < from) → ((k : ℕ) (d : Record) → i ≤ k → k < length rows → from ≤ (get_or rows k d).made)

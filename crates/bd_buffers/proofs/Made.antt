@@ -2,7 +2,7 @@
 use Rattle.std.proofs.{Common.{All, Bool, List, ap, arith, cond, false, get_or, length, ltb, map, refl, suc, sym, true, ℕ, [], ◌<◌, ◌∙◌, ◌∷◌, ◌≡◌, ◌≤◌}, lemmas.Bool.{eqb-true, ltb-false, ltb-true}}
 use Rattle.std.proofs.{lemmas.List.{get_or-map, length-map}, lemmas.List.Sorted.{IsPartitionedBy-ltb}, lemmas.Option.{slice_get-get_or}}
 use Rattle.std.specs.{List.{slice_get}, List.Sorted.{IsBinarySearchResult, IsNonDecreasingBy, IsPartitionPoint, IsPartitionedBy, IsSearchInRange}, Ordering.{nat_cmp}}
-use Rattle.std.specs.{Prelude.{Err, MatchOption, None, Ok, Option, Result, Some, filter, find, not, option_map, ◌==◌}, Result.{result_ok}}
+use Rattle.std.specs.{Prelude.{Err, MatchOption, Ok, Option, Result, Some, filter, find, not, ◌==◌}, Result.{result_ok}}
 use Rattle.bd_buffers.specs.Rows.{IsWithout, kept}
 use Rattle.bd_ground.proofs.Tiling.{apart}
 use Rattle.bd_keys.proofs.Rising.{Distinct, Rising, distinct, filter_none, find_at, find_none, pairs_tail, rest_differ}
@@ -30,9 +30,6 @@ find_kept key keep m [] apart = refl
 find_kept key keep m (x ∷ xs) apart =
     let rest = find_kept key keep m xs (pairs_tail (λ a b. key a ≡ key b → ⊥) x xs apart) in let none = rest_differ key m x xs apart in grind (arith, eqb-true, find_none)
 
-pub none_of : {A B : Type 0} (f : A → B) (o : Option A) → None ≡ option_map f o → None ≡ o
-none_of f o e = grind arith
-
 -- ---- where one stands, and where places stay
 
 -- where keys rise, the same keys do
@@ -54,13 +51,9 @@ module _ {A : Type 0} (key : A → ℕ) where
   gone_at m [] x rising e = cc
   gone_at m (y ∷ xs) x rising e = by (key y == m) refl e (gone_at m xs x (pairs_tail (λ a b. key a < key b) y xs rising))
     where
-      left : List A
-      left = filter (λ z. not (key z == m)) xs
-
-      by : (t : Bool) → (key y == m) ≡ t → cond t (Some y) (find (λ z. key z == m) xs) ≡ Some x → (find (λ z. key z == m) xs ≡ Some x → IsWithout x xs left) → IsWithout x (y ∷ xs) (cond (not t) (y ∷ left) left)
+      by : (t : Bool) → (key y == m) ≡ t → cond t (Some y) (find (λ z. key z == m) xs) ≡ Some x → (find (λ z. key z == m) xs ≡ Some x → IsWithout x xs (filter (λ z. not (key z == m)) xs))
+          → IsWithout x (y ∷ xs) (cond (not t) (y ∷ filter (λ z. not (key z == m)) xs) (filter (λ z. not (key z == m)) xs))
       by true e f rest =
-          let same : y ≡ x = cc in
-          record { index = 0; within = omega arith; at = λ d. sym same; left = filter_none key m xs (rest_differ key m y xs (distinct key (y ∷ xs) rising) (eqb-true (key y) m e)) }
-      by false e f rest =
-          let gone = rest f in
-          record { index = suc gone.index; within = (omega arith); at = gone.at; left = ap (λ ys. y ∷ ys) gone.left }
+          let none = filter_none key m xs (rest_differ key m y xs (distinct key (y ∷ xs) rising) (eqb-true (key y) m e)) in
+          record { index = 0; within = omega arith; at = λ d. cc; left = none }
+      by false e f rest = let gone = rest f in record { index = suc gone.index; within = omega arith; at = gone.at; left = ap (λ ys. y ∷ ys) gone.left }

@@ -1,9 +1,8 @@
 -- The least place that fits.
-use Rattle.std.proofs.{Common.{Bool, List, arith, false, refl, rules, suc, sym, tests, true, zero, ℕ, ◌%◌, ◌*◌, ◌+◌, ◌/◌, ◌<◌, ◌≡◌, ◌≤◌}, lemmas.List.Elements.{All-weaker}}
-use Rattle.std.proofs.lemmas.List.Sums.{AllPass-from_list_all, list_all-from_AllPass}
+use Rattle.std.proofs.{Common.{Bool, List, arith, false, refl, suc, sym, true, zero, ℕ, ◌%◌, ◌*◌, ◌+◌, ◌/◌, ◌<◌, ◌≡◌, ◌≤◌}, lemmas.List.Elements.{All-weaker}, lemmas.List.Sums.{AllPass-from_list_all, list_all-from_AllPass}}
 use Rattle.std.specs.Prelude.{Err, IfErr, IfOk, IsTrue, None, Ok, Option, Result, Some, option_map, ◌&&◌}
-use Rattle.bd_buffers.specs.{Buffer.{IsApart}, Stands.{CanHold, Stands}, Window.{IsFree, IsInBudget, IsLeastFree, IsWindow, Refuses, one_way_size}, declared.window.Window.{Window}}
-use Rattle.bd_space.specs.{Words.{and_then, least, ok_or, unless, when}, Windows.{fits_in, is_apart, needed, over_budget_in, start_for, start_in}, declared.space.Buffer.{Buffer}}
+use Rattle.bd_buffers.specs.{Stands.{CanHold, Stands}, Window.{IsFree, IsInBudget, IsLeastFree, IsWindow, Refuses, one_way_size}, declared.window.Window.{Window}}
+use Rattle.bd_space.specs.{Words.{and_then, least, ok_or, unless, when}, Windows.{fits_in, needed, over_budget_in, start_for, start_in}, declared.space.Buffer.{Buffer}}
 use Rattle.bd_uapi.specs.{declared.fault.Cause.{Cause}, declared.fault.Cause.TheVariants.{NoRoom, OverBudget}}
 
 -- ---- the least number that passes
@@ -24,12 +23,6 @@ least_misses p zero k e j low high = absurd (omega arith)
 least_misses p (suc n) k e j low high = let rest = least_misses p n (k + 1) in grind (arith, true, false)
 
 -- ---- room
-
-apart_is : (p n : ℕ) (b : Buffer) → is_apart p n b ≡ true → IsApart p n b
-apart_is p n b t = search (rules, tests)
-
-is_apart_from : (p n : ℕ) (b : Buffer) → IsApart p n b → is_apart p n b ≡ true
-is_apart_from p n b apart = search (rules, tests)
 
 pub fits_free : (size : ℕ) (buffers : List Buffer) (n p : ℕ) → p % 8 ≡ 0 → fits_in size buffers n p ≡ true → IsFree size buffers n p
 fits_free size buffers n p aligned fits = search (arith, AllPass-from_list_all, All-weaker)

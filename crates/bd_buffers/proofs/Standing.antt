@@ -1,10 +1,8 @@
 -- Records, and the buffers that they stand for.
-use Rattle.std.proofs.{Common.{All, Bool, List, ap, arith, get_or, length, map, refl, subst, sym, ℕ, [], ◌++◌, ◌+◌, ◌<◌, ◌∷◌, ◌≡◌, ◌≤◌}, lemmas.List.{get_or-map, length-map, map-append}, lemmas.List.Edits.{length-between}}
-use Rattle.std.proofs.lemmas.List.Elements.{All-head, All-tail}
-use Rattle.std.specs.{List.{between}, Prelude.{AllPairs, filter, find, not, option_map}}
+use Rattle.std.proofs.{Common.{All, Bool, List, ap, arith, get_or, length, map, refl, subst, ℕ, [], ◌++◌, ◌+◌, ◌∷◌, ◌≡◌, ◌≤◌}, lemmas.List.{get_or-map, length-map, map-append}, lemmas.List.Elements.{All-head, All-tail}}
+use Rattle.std.specs.{List.{between}, Prelude.{filter, find, not, option_map}}
 use Rattle.bd_buffers.specs.{Record.{IsInMemory, IsSized, all_standing, hand_over, is_record_at, made_of_record, record_in, standing, with_bytes}, WindowsStand.{made_of_buffer}, declared.record.Record.{Record}}
 use Rattle.bd_space.specs.{Words.{changed, round_up}, Freeing.{is_made_at}, ReadItems.{hand_out}, Returns.{buffer_in}, declared.space.Buffer.{Buffer}}
-use Rattle.bd_buffers.proofs.Made.{same_keys}
 
 module _ {A B : Type 0} (f : A → B) where
   pub found_of : (r : B → Bool) (xs : List A) → find r (map f xs) ≡ option_map f (find (λ y. r (f y)) xs)
@@ -34,10 +32,6 @@ module _ (m : List ℕ) where
   made_standing [] = refl
   made_standing (r ∷ rs) = ap (λ ms. r.made ∷ ms) (made_standing rs)
 
-  -- records stand in the order in which their buffers were made
-  pub rising_records : (rs : List Record) → AllPairs (λ a b. a.made < b.made) (all_standing m rs) → AllPairs (λ a b. a.made < b.made) rs
-  rising_records rs rising = same_keys made_of_buffer made_of_record (all_standing m rs) rs (sym (made_standing rs)) rising
-
   pub pushed_standing : (rs : List Record) (r : Record) → all_standing m (rs ++ r ∷ []) ≡ all_standing m rs ++ standing m r ∷ []
   pushed_standing rs r = map-append (standing m) rs (r ∷ [])
 
@@ -64,10 +58,6 @@ pub in_longer : (m n : List ℕ) (rs : List Record) → length m ≤ length n �
 in_longer m n rs le all k d lt = search arith
 
 -- ---- what is lent from memory, and laid out in it
-
--- a record's buffer has as many bytes as it says
-pub sized_there : (m : List ℕ) (r : Record) → IsInMemory m r → IsSized r (standing m r).bytes (standing m r).offsets
-sized_there m r is = search (arith, length-between)
 
 pub laid_is : (mid new : List ℕ) (r : Record) (b : Buffer) → b ≡ with_bytes r b.bytes b.offsets → IsSized r b.bytes b.offsets
     → between r.start (r.start + length b.bytes) mid ≡ b.bytes → between r.start (r.start + length b.bytes) new ≡ between r.start (r.start + length b.bytes) mid

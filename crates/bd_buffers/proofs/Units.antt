@@ -1,6 +1,6 @@
 -- What is free of a window, by bytes and by units of eight.
-use Rattle.std.proofs.Common.{All, Bool, List, ap, arith, false, get_or, inl, inr, length, map, refl, subst, suc, sym, true, zero, ℕ, [], ◌%◌, ◌*◌, ◌++◌, ◌+◌, ◌-◌, ◌/◌, ◌<◌, ◌∷◌, ◌≡◌, ◌≤◌}
-use Rattle.std.proofs.{Math.Bool.{and-false, and-true, and_assoc}, lemmas.Bool.{cases_Bool, false≢true}, lemmas.Grind.{common_steps}, lemmas.List.Elements.{All-cons, All-weaker}}
+use Rattle.std.proofs.Common.{All, Bool, List, arith, false, get_or, inl, inr, length, map, refl, subst, suc, sym, true, zero, ℕ, [], ◌%◌, ◌*◌, ◌++◌, ◌+◌, ◌-◌, ◌/◌, ◌<◌, ◌∷◌, ◌≡◌, ◌≤◌}
+use Rattle.std.proofs.{Math.Bool.{and-false, and-true, and_assoc}, lemmas.Bool.{cases_Bool}, lemmas.Grind.{common_steps}, lemmas.List.Elements.{All-cons, All-weaker}}
 use Rattle.std.proofs.lemmas.List.Sums.{AllPass-from_list_all, list_all-from_AllPass}
 use Rattle.std.specs.{List.{list_all}, Prelude.{AllPairs, None, Some, not, remove, ◌&&◌}}
 use Rattle.bd_buffers.specs.{Buffer.{IsApart, IsPlaced}, Holes.{Covered, IsHoles, Spaced, in_bytes}, Rows.{IsWithout}, Window.{IsFree, IsLeastFree, IsWindow, is_free_byte, is_free_unit}}
@@ -15,12 +15,6 @@ use Rattle.bd_ground.specs.Holes as units
 
 abbrev pub IsOutOf : ℕ → Buffer → Type 0
 IsOutOf q b = IsOut b.start b.size q
-
-out_is : (q : ℕ) (b : Buffer) → not (is_in b.start b.size q) ≡ true → IsOutOf q b
-out_is q b t = elim (in_or_out b.start b.size q) [ inl own ↦ absurd (false≢true (rw (is_in_true b.start b.size q own) at t)) | inr out ↦ out ]
-
-out_from : (q : ℕ) (b : Buffer) → IsOutOf q b → not (is_in b.start b.size q) ≡ true
-out_from q b out = ap not (is_in_false b.start b.size q out)
 
 pub free_out : (bs : List Buffer) (q : ℕ) → is_free_byte bs q ≡ true → All (IsOutOf q) bs
 free_out bs q t = search (arith, All-weaker, AllPass-from_list_all)

@@ -1,12 +1,12 @@
-use Rattle.std.proofs.Common.{List, arith, refl, subst, sym, []}
-use Rattle.bd_buffers.specs.{Window.{Keeps, is_free_unit}, declared.ground.Ground.{Ground}, declared.record.Record.{Record}}
+use Rattle.std.proofs.Common.{arith, refl, []}
+use Rattle.bd_buffers.specs.{Window.{is_free_unit}, declared.ground.Ground.{Ground}}
 use Rattle.bd_buffers.proofs.Kept.{window_empty}
 use Rattle.bd_buffers.proofs.window.Window.new.Goals as goal
 
 pub invariant_of-result : goal.invariant_of-result
 invariant_of-result c =
     let g : Ground = record { size = c.args.size; one_way = 0; senders = c.new-2.result; starts = c.new-3.result; spans = c.new-4.result; memory = c.new-5.result } in
-    subst (λ (rs : List Record). Keeps rs g) (sym c.new.ensures) (record {
+    rw c.new.ensures (record {
       notes = record {
         window = window_empty c.args.size c.requires.0 c.requires.1;
         whole = omega (arith, c.requires.0, c.new-4.ensures.size);
