@@ -37,7 +37,4 @@ module _ {A : Type 0} (R : A → A → Type 0) where
   pairs_changed p f left right (x ∷ xs) pairs =
       let rest = pairs_changed p f left right xs (pairs_tail R x xs pairs) in
       let all = All_changed p f (R x) (right x) xs (pairs_head R x xs pairs) in
-      let front : All (R (cond (p x) (f x) x)) (changed p f xs) =
-      elim (p x) as (λ b. All (R (cond b (f x) x)) (changed p f xs)) [ true ↦ (λ k d h. left x _ (all k d h)) | false ↦ all ]
-      in
-      pairs_cons (cond (p x) (f x) x) (changed p f xs) front rest
+      elim (p x) as (λ b. AllPairs R (cond b (f x) x ∷ changed p f xs)) [ true ↦ pairs_cons (f x) (changed p f xs) (λ k d h. left x _ (all k d h)) rest | false ↦ pairs_cons x (changed p f xs) all rest ]

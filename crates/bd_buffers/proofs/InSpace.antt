@@ -1,7 +1,6 @@
 -- How the live buffers of one window go with all those of a space, for a table in which the window of each live process p
 -- stands for `buffers_of buffers p`.
-use Rattle.std.proofs.{Common.{Bool, List, ap, arith, cond, eq-eqb, ne_eqb, refl, sym, true, ℕ, [], ◌++◌, ◌∙◌, ◌∷◌, ◌≡◌, ◌≢◌}, Math.Bool.{and-false, and_comm}, lemmas.Bool.{eqb-true}, lemmas.List.{append-nil}}
-use Rattle.std.proofs.lemmas.List.Elements.{filter-append, filter_agree}
+use Rattle.std.proofs.{Common.{Bool, List, ap, arith, eq-eqb, ne_eqb, refl, sym, true, ℕ, [], ◌++◌, ◌∙◌, ◌∷◌, ◌≡◌, ◌≢◌}, lemmas.Bool.{eqb-true}, lemmas.List.{append-nil}, lemmas.List.Elements.{filter-append}}
 use Rattle.std.specs.Prelude.{filter, find, not, ◌&&◌, ◌==◌}
 use Rattle.bd_buffers.specs.Buffer.{at_pointer}
 use Rattle.bd_space.specs.{Words.{changed}, Freeing.{is_made_at, pointer}, ReadItems.{hand_out}, Windows.{buffers_of}, declared.space.Buffer.{Buffer}}
@@ -16,23 +15,18 @@ module _ {A : Type 0} where
   find_filter q r [] = refl
   find_filter q r (x ∷ xs) = grind (arith, find_filter q r xs)
 
-  filter_at : (q : A → Bool) (x : A) (xs : List A) (b : Bool) → q x ≡ b → filter q (x ∷ xs) ≡ cond b (x ∷ filter q xs) (filter q xs)
-  filter_at q x xs b e = ap (λ c. cond c (x ∷ filter q xs) (filter q xs)) e
-
-  filter_both : (q r : A → Bool) (xs : List A) → filter q (filter r xs) ≡ filter (λ x. r x && q x) xs
-  filter_both q r [] = refl
-  filter_both q r (x ∷ xs) = grind (arith, filter_both q r xs)
-
   filter_swap : (q r : A → Bool) (xs : List A) → filter q (filter r xs) ≡ filter r (filter q xs)
-  filter_swap q r xs = filter_both q r xs ∙ filter_agree (λ x. r x && q x) (λ x. q x && r x) (λ x. and_comm (r x) (q x)) xs ∙ sym (filter_both r q xs)
+  filter_swap q r [] = refl
+  filter_swap q r (x ∷ xs) = grind (arith, filter_swap q r xs)
 
   pub filter_changed : (q p : A → Bool) (f : A → A) → ((x : A) → q (f x) ≡ q x) → (xs : List A) → filter q (changed p f xs) ≡ changed p f (filter q xs)
   filter_changed q p f same [] = refl
-  filter_changed q p f same (x ∷ xs) = grind (arith, filter_at, filter_changed q p f same xs)
+  filter_changed q p f same (x ∷ xs) = let own = same x in grind (arith, filter_changed q p f same xs)
 
   -- what goes, goes where the others don't pass anyway
   pub filter_kept : (q r : A → Bool) → ((x : A) → q x ≡ true → r x ≡ true) → (xs : List A) → filter q (filter r xs) ≡ filter q xs
-  filter_kept q r both xs = grind (arith, filter_both, filter_agree, and-false)
+  filter_kept q r both [] = refl
+  filter_kept q r both (x ∷ xs) = let own = both x in grind (arith, filter_kept q r both xs)
 
 -- ---- what is found in a window by a pointer
 
@@ -42,7 +36,7 @@ at_pointer_in buffers p ptr = find_filter (is_in p) (at_pointer ptr) buffers
 -- ---- one more buffer
 
 pub added : (buffers : List Buffer) (b : Buffer) (p : ℕ) → b.receiver ≡ p → buffers_of (buffers ++ b ∷ []) p ≡ buffers_of buffers p ++ b ∷ []
-added buffers b p own = filter-append (is_in p) buffers (b ∷ []) ∙ ap (λ xs. buffers_of buffers p ++ xs) (filter_at (is_in p) b [] true (eq-eqb b.receiver p own))
+added buffers b p own = let e = eq-eqb b.receiver p own in simp (filter-append, e)
 
 pub added_elsewhere : (buffers : List Buffer) (b : Buffer) (p : ℕ) → b.receiver ≢ p → buffers_of (buffers ++ b ∷ []) p ≡ buffers_of buffers p
 added_elsewhere buffers b p other = search (arith, filter-append, append-nil)

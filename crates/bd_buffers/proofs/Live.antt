@@ -72,7 +72,6 @@ ended_live : (n : ℕ) (rows : List Record) → live (changed (is_record_at n) e
 ended_live n [] = refl
 ended_live n (x ∷ rows) = grind (arith, ended_live n rows)
 
--- what is left where a row becomes empty
 -- there is one
 some_row : (rows : List Record) (i : ℕ) → i < length rows → Record
 some_row rows i lt = grind arith
@@ -88,8 +87,6 @@ pub end_left : (n : ℕ) (rows new : List Record) (i : ℕ) → InOrder rows →
 end_left n rows new i rising is set_there =
     let e = one_changed ended n rows new i rising is set_there in
     (ap live e ∙ ended_live n rows, subst InOrder (sym e) (pairs_changed (is_record_at n) ended made_of_record (λ x. refl) (λ a b. a < b) rows rising))
-
--- ---- where empty rows are left out
 
 pub packed_live : (rows : List Record) → live (live rows) ≡ live rows
 packed_live rows = filter_kept lives lives (λ r t. t) rows
@@ -109,10 +106,9 @@ pub more_live : (rows : List Record) (b : Record) (t : Bool) → lives b ≡ t �
 more_live rows b t e = simp (filter-append lives rows (b ∷ []), e)
 
 pub pushed_rows : (rows : List Record) (b : Record) → AreRows rows → lives b ≡ true → All (λ x. x.made < b.made) (live rows) → AreRows (rows ++ b ∷ [])
-pushed_rows rows b is t newest = record {
-  in_order = all_pairs_push (λ (x : Record) (y : Record). x.made < y.made) rows b is.in_order (rows_below rows b.made is newest);
-  ends = ap (λ o. unwrap_or (option_map is_empty o) false) (get_last rows b) ∙ ap not t;
-}
+pushed_rows rows b is t newest =
+    let order = all_pairs_push (λ (x : Record) (y : Record). x.made < y.made) rows b is.in_order (rows_below rows b.made is newest) in
+    record { in_order = order; ends = ap (λ o. unwrap_or (option_map is_empty o) false) (get_last rows b) ∙ ap not t }
 
 -- ---- where the last goes, which is empty
 
@@ -129,10 +125,9 @@ ends_stay p [] k = refl
 ends_stay p (x ∷ rows) k = grind (arith, ends_stay p rows)
 
 pub handed_rows : (p : Record → Bool) (rows : List Record) → AreRows rows → AreRows (changed p hand_over rows)
-handed_rows p rows is = record {
-  in_order = pairs_changed p hand_over made_of_record (λ x. refl) (λ a b. a < b) rows is.in_order;
-  ends = rw (length_changed p hand_over rows, ends_stay p rows (length rows - 1)) is.ends;
-}
+handed_rows p rows is =
+    let order = pairs_changed p hand_over made_of_record (λ x. refl) (λ a b. a < b) rows is.in_order in
+    record { in_order = order; ends = rw (length_changed p hand_over rows, ends_stay p rows (length rows - 1)) is.ends }
 
 pub handed_live : (n : ℕ) (rows : List Record) → live (changed (is_record_at n) hand_over rows) ≡ changed (is_record_at n) hand_over (live rows)
 handed_live n rows = filter_changed lives (is_record_at n) hand_over (λ x. refl) rows

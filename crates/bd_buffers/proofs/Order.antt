@@ -44,11 +44,7 @@ made_handed bound ps p bs is = search (arith, All_changed, pairs_changed)
 
 pub process_gone : (bound p : ℕ) (ps : List Process) (bs : List Buffer) → AreMade bound ps bs
     → AreMade bound (filter (λ q. not (q.made == p)) ps) (filter (λ b. not (b.receiver == p)) bs)
-process_gone bound p ps bs is = record {
-  processes_in_order = AllPairs-filter (λ (a : Process) (b : Process). a.made < b.made) (λ q. not (q.made == p)) ps is.processes_in_order;
-  processes_before = All-filter (λ q. not (q.made == p)) (λ q. q.made < bound) ps is.processes_before;
-  buffers_in_order = AllPairs-filter (λ (a : Buffer) (b : Buffer). a.made < b.made) (λ b. not (b.receiver == p)) bs is.buffers_in_order;
-  buffers_before = All-filter (λ b. not (b.receiver == p)) (λ b. b.made < bound) bs is.buffers_before;
-  received = All_filtered (λ b. not (b.receiver == p)) (λ b. lives_in ps b.receiver ≡ true) (λ b. lives_in (filter (λ q. not (q.made == p)) ps) b.receiver ≡ true)
-      (λ b other lives. lives_after ps p b.receiver other lives) bs is.received;
-}
+process_gone bound p ps bs is =
+    let received = All_filtered (λ b. not (b.receiver == p)) (λ b. lives_in ps b.receiver ≡ true) (λ b. lives_in (filter (λ q. not (q.made == p)) ps) b.receiver ≡ true)
+    (λ b other lives. lives_after ps p b.receiver other lives) bs is.received in
+    search (arith, AllPairs-filter, All-filter)

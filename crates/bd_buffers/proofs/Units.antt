@@ -1,7 +1,6 @@
 -- What is free of a window, by bytes and by units of eight.
-use Rattle.std.proofs.Common.{All, Bool, List, arith, false, get_or, inl, inr, length, map, refl, subst, suc, sym, true, zero, ℕ, [], ◌%◌, ◌*◌, ◌++◌, ◌+◌, ◌-◌, ◌/◌, ◌<◌, ◌∷◌, ◌≡◌, ◌≤◌}
-use Rattle.std.proofs.{Math.Bool.{and-false, and-true, and_assoc}, lemmas.Bool.{cases_Bool}, lemmas.Grind.{common_steps}, lemmas.List.Elements.{All-cons, All-weaker}}
-use Rattle.std.proofs.lemmas.List.Sums.{AllPass-from_list_all, list_all-from_AllPass}
+use Rattle.std.proofs.{Common.{All, Bool, List, arith, false, get_or, inl, inr, length, map, refl, suc, sym, true, zero, ℕ, [], ◌%◌, ◌*◌, ◌++◌, ◌+◌, ◌-◌, ◌/◌, ◌<◌, ◌∷◌, ◌≡◌, ◌≤◌}, Math.Bool.{and-false, and-true, and_assoc}}
+use Rattle.std.proofs.{lemmas.Bool.{cases_Bool}, lemmas.Grind.{common_steps}, lemmas.List.Elements.{All-cons, All-weaker}, lemmas.List.Sums.{AllPass-from_list_all, list_all-from_AllPass}}
 use Rattle.std.specs.{List.{list_all}, Prelude.{AllPairs, None, Some, not, remove, ◌&&◌}}
 use Rattle.bd_buffers.specs.{Buffer.{IsApart, IsPlaced}, Holes.{Covered, IsHoles, Spaced, in_bytes}, Rows.{IsWithout}, Window.{IsFree, IsLeastFree, IsWindow, is_free_byte, is_free_unit}}
 use Rattle.bd_ground.proofs.{Bits.{IsIn, IsOut, in_or_out, is_in_false, is_in_true}, Tiling.{begins_of_least, tiles_same}}
@@ -59,16 +58,11 @@ module _ (size m : ℕ) (bs : List Buffer) (whole : size ≡ 8 * m) (placed : Al
   at_whole n q room = search arith
 
   least_in_bytes : (n k : ℕ) → 0 < n → IsLeastRun (is_free_unit bs) m n k → IsLeastFree size bs (8 * n) (8 * k)
-  least_in_bytes n k pos is = record {
-    room = run_is_free n k pos is.run;
-    least = λ q room. (let le = is.least (q / 8) (free_is_run n (q / 8) (at_whole (8 * n) q room)) in omega (arith, le));
-  }
+  least_in_bytes n k pos is =
+      record { room = run_is_free n k pos is.run; least = λ q room. (let le = is.least (q / 8) (free_is_run n (q / 8) (at_whole (8 * n) q room)) in omega (arith, le)) }
 
   least_in_units : (n k : ℕ) → 0 < n → IsLeastFree size bs (8 * n) (8 * k) → IsLeastRun (is_free_unit bs) m n k
-  least_in_units n k pos is = record {
-    run = free_is_run n k is.room;
-    least = λ q run. (let le = is.least (8 * q) (run_is_free n q pos run) in omega (arith, le));
-  }
+  least_in_units n k pos is = record { run = free_is_run n k is.room; least = λ q run. (let le = is.least (8 * q) (run_is_free n q pos run) in omega (arith, le)) }
 
   -- where the least run begins, there is the place
   pub start_found : (n k : ℕ) → 8 ≤ n → n % 8 ≡ 0 → IsLeastRun (is_free_unit bs) m (n / 8) k → Some (k * 8) ≡ start_in size bs n
@@ -85,12 +79,10 @@ module _ (size m : ℕ) (bs : List Buffer) (whole : size ≡ 8 * m) (placed : Al
   -- and there a hole begins that has the room, or the tail
   pub begins_there : (t : Spans) (n p : ℕ) → t.size ≡ m → Tiles (is_free_unit bs) t → 8 ≤ n → n % 8 ≡ 0 → IsLeastFree size bs n p → Begins t (n / 8) (p / 8)
   begins_there t n p e tiles full aligned is =
-      let P : ℕ → ℕ → Type 0 = λ x y. IsLeastFree size bs x y in
       let room : n ≡ 8 * (n / 8) = omega (arith, aligned) in
       let place : p ≡ 8 * (p / 8) = omega arith in
-      let R : ℕ → Type 0 = λ x. IsLeastRun (is_free_unit bs) x (n / 8) (p / 8) in
-      let least = least_in_units (n / 8) (p / 8) (omega (arith, full)) (subst (P (8 * (n / 8))) place (subst (λ x. P x p) room is)) in
-      begins_of_least (is_free_unit bs) t tiles (n / 8) (p / 8) (omega (arith, full)) (subst R (sym e) least)
+      let least = least_in_units (n / 8) (p / 8) (omega (arith, full)) (rw (← room, ← place) is) in
+      begins_of_least (is_free_unit bs) t tiles (n / 8) (p / 8) (omega (arith, full)) (rw e least)
 
 -- ---- one buffer more
 
@@ -119,8 +111,7 @@ others_out size i q bs b is lt at own =
 -- all pass where the one at an index does, and all others
 all_removed : {A : Type 0} (p : A → Bool) (xs : List A) (i : ℕ) (d : A) → i < length xs → list_all p xs ≡ (p (get_or xs i d) && list_all p (remove xs i))
 all_removed p [] i d lt = absurd (omega arith)
-all_removed p (x ∷ xs) zero d lt = refl
-all_removed p (x ∷ xs) (suc i) d lt = grind (arith, and-false, all_removed p xs i d (omega arith))
+all_removed p (x ∷ xs) i d lt = let rest = all_removed p xs in grind (arith, and-false)
 
 free_less : (size u : ℕ) (b : Buffer) (bs new : List Buffer) → IsWindow size bs → IsWithout b bs new → with_span (b.start / 8) (b.size / 8) (is_free_unit bs) u ≡ is_free_unit new u
 free_less size u b bs new window gone =
