@@ -1,20 +1,46 @@
 -- The windows of all live processes through each change.
-use Rattle.std.proofs.{Common.{All, Bool, List, None, Some, ap, arith, eq-eqb, false, get_or, length, map, refl, set, subst, sym, true, ℕ, [], ◌++◌, ◌+◌, ◌<◌, ◌∙◌, ◌∷◌, ◌≡◌, ◌≢◌}, Math.Seq.{map-set_same}}
-use Rattle.std.proofs.{lemmas.Bool.{eqb-true}, lemmas.List.{get_or-map, get_or-set_same, get_or_default, length-map, length-set, map-set, map_push}, lemmas.List.Elements.{All-filter, All-map, All-weaker}}
-use Rattle.std.specs.{Option.{is_some}, Prelude.{Err, IfOk, IfSome, MatchOption, Ok, Option, Result, filter, find, not, option_copied, option_map, ◌==◌}}
-use Rattle.bd_buffers.specs.{Homes.{AreHomes, home_key}, Owners.{AreInOrder, StandsAt}, Rows.{kept}, Stands.{CanHold}}
-use Rattle.bd_buffers.specs.{WindowsStand.{AreMade, CanAdd, ProcessWindow, Stands, WindowsOf, buffers_held, is_of, is_owned_by, made_of_buffer, seen, window_of, with_buffers}, declared.owned.OwnedWindow.{OwnedWindow}}
-use Rattle.bd_buffers.specs.{declared.window.Window.{Window}, declared.windows.Windows.{Windows}}
-use Rattle.bd_keys.proofs.{Found.{any_some, found_passes}, Rising.{distinct, find_at}}
-use Rattle.bd_keys.specs.Look.{look}
-use Rattle.bd_space.proofs.Keyed.{changed_at, changed_none}
-use Rattle.bd_space.specs.{Words.{changed}, Freeing.{is_made_at}, ReadItems.{hand_out, handed_buffers}, Returns.{buffer_in}, Seats.{lives_in, process_in}, Windows.{buffers_of}, declared.space.Buffer.{Buffer}}
-use Rattle.bd_space.specs.declared.space.Process.{Process}
-use Rattle.bd_uapi.specs.declared.fault.Cause.{Cause}
-use denote.Ref.{Bor}
-use Rattle.bd_buffers.proofs.{Changes.{none_left}, Homes.{found_kept, home_finds}, InSpace.{added, added_elsewhere, others_stay}, Made.{kept_some, same_keys}, Order.{buffer_made, not_yet, process_gone, process_made}}
-use Rattle.bd_buffers.proofs.{Owners.{owners_seen}, Standing.{filtered_of, found_of}}
+use Rattle.bd_buffers.proofs.Words.{All, All-filter, All-map, All-weaker, AllPairs-filter, AreHomes, AreInOrder, AreMade, Bool, Bor, Buffer, CanAdd, CanHold, Cause, Err, IfOk, IfSome, List, MatchOption, None, Ok, Option, OwnedWindow, Process, ProcessWindow, Result, Some, Stands, StandsAt, Window, Windows}
+use Rattle.bd_buffers.proofs.Words.{WindowsOf, any_some, ap, arith, buffer_in, buffers_held, buffers_of, changed, changed_at, changed_none, distinct, eq-eqb, eqb-true, false, filter, find, find_at, found_passes, get_or, get_or-map, get_or-set_same, get_or_default, hand_out, handed_buffers, home_key, is_made_at}
+use Rattle.bd_buffers.proofs.Words.{is_of, is_owned_by, is_some, length, length-map, length-set, lives_in, look, ltb, ltb-false, ltb-true, made_of_buffer, map, map-set, map-set_same, map_push, not, option_copied, option_map, process_in, refl, seen, set, slice_get, slice_get_past, slice_get_read, subst, sym, true}
+use Rattle.bd_buffers.proofs.Words.{window_of, with_buffers, ℕ, [], ◌++◌, ◌+◌, ◌<◌, ◌==◌, ◌∙◌, ◌∷◌, ◌≡◌, ◌≢◌}
+use Rattle.bd_buffers.proofs.{InSpace.{added, added_elsewhere, buffer_made, found_kept, home_finds, not_yet, others_stay, process_gone, process_made}, Made.{kept_some, none_left, same_keys}, Standing.{all_of, filtered_of, found_of}}
 use Rattle.std.proofs.Math.ListN as list
+
+-- ---- by whose they are: owners rise
+
+-- ---- where one stands
+
+pub look_copied : {A : Type 0} (o : Option (Bor A)) (xs : List A) (i : ℕ) → is_some o ≡ ltb i (length xs) → IfSome o (λ x. x.now ≡ get_or xs i x.now) → option_copied o ≡ slice_get xs i
+look_copied o xs i e at = grind (arith, slice_get_past, ltb-false, slice_get_read, ltb-true)
+
+-- ---- they stay in order
+
+abbrev owners : List OwnedWindow → List ℕ
+owners ws = map (λ w. w.owner) ws
+
+-- where some go
+pub order_kept : (keep : OwnedWindow → Bool) (ws new : List OwnedWindow) → new ≡ filter keep ws → AreInOrder ws → AreInOrder new
+order_kept keep ws new e order = subst AreInOrder (sym e) (AllPairs-filter (λ (a : OwnedWindow) (b : OwnedWindow). a.owner < b.owner) keep ws order)
+
+pub owners_seen : (ws : List OwnedWindow) → owners ws ≡ map (λ (x : ProcessWindow). x.owner) (map seen ws)
+owners_seen [] = refl
+owners_seen (w ∷ ws) = ap (λ ns. w.owner ∷ ns) (owners_seen ws)
+
+owners_one : (f : List Buffer → List Buffer) (p : ℕ) (xs : List ProcessWindow) → map (λ (x : ProcessWindow). x.owner) (changed (is_of p) (with_buffers f) xs) ≡ map (λ (x : ProcessWindow). x.owner) xs
+owners_one f p [] = refl
+owners_one f p (x ∷ xs) = grind (arith, owners_one f p xs)
+
+pub order_one : (f : List Buffer → List Buffer) (p : ℕ) (ws new : List OwnedWindow) → map seen new ≡ changed (is_of p) (with_buffers f) (map seen ws) → AreInOrder ws → AreInOrder new
+order_one f p ws new e order =
+    same_keys (λ (w : OwnedWindow). w.owner) (λ (w : OwnedWindow). w.owner) ws new (owners_seen new ∙ ap (map (λ (x : ProcessWindow). x.owner)) e ∙ owners_one f p (map seen ws) ∙ sym (owners_seen ws)) order
+
+-- ---- whose they are
+
+-- those of processes that were opened before a step
+pub owners_before : (ws : List OwnedWindow) (bs : List Buffer) (ps : List Process) (bound : ℕ) → map seen ws ≡ map (window_of bs) ps → All (λ q. q.made < bound) ps
+    → All (λ w. w.owner < bound) ws
+owners_before ws bs ps bound e before =
+    all_of seen (λ x. x.owner < bound) ws (subst (All (λ (x : ProcessWindow). x.owner < bound)) (sym e) (All-map (λ (x : ProcessWindow). x.owner < bound) (window_of bs) ps before))
 
 -- a window that stands for these buffers now
 pub seen_as : (w old : OwnedWindow) (f : List Buffer → List Buffer) → w.owner ≡ old.owner → Stands w.window old.window.size (f old.window.buffers) → seen w ≡ with_buffers f (seen old)
@@ -78,8 +104,7 @@ pub opened : (t u : Windows) (bound : ℕ) (ps : List Process) (bs : List Buffer
     → u.windows ≡ t.windows ++ w ∷ [] → u.homes ≡ t.homes → WindowsOf t bound ps bs → WindowsOf u (bound + 1) (ps ++ q ∷ []) bs
 opened t u bound ps bs q w e own is pushed homes stands =
     let none = none_received ps q.made bs (rw e (not_yet ps bound stands.made.processes_before)) stands.made.received in
-    let size = is.size_is in
-    let buffers = is.buffers_are in
+    let size = is.size_is in let buffers = is.buffers_are in
     record { windows_are = simp (pushed, map_push) (cc); made = process_made bound ps bs q e stands.made; homes_are = rw homes stands.homes_are }
 
 -- ---- a process that ends

@@ -1,13 +1,7 @@
 -- What rows have, and what each change leaves of it.
-use Rattle.std.proofs.Common.{All, Bool, List, None, Option, Some, ap, arith, cond, drop, false, get_or, length, refl, set, subst, suc, sym, true, zero, ℕ, [], ◌++◌, ◌+◌, ◌-◌, ◌<◌, ◌∙◌, ◌∷◌, ◌≡◌, ◌≤◌}
-use Rattle.std.proofs.{Math.ListN.{get_or-append}, Math.Seq.{drop-cons}, lemmas.Bool.{le-leb, lt-leb}, lemmas.List.{append-nil, drop_all, get_or_push, length-map, length_push}}
-use Rattle.std.proofs.{lemmas.List.Elements.{All-head, All-tail, filter-append, filter_passes}, lemmas.List.Kept.{AllPairs-filter}, lemmas.List.Quantifiers.{all_pairs_push}}
-use Rattle.std.proofs.lemmas.Option.{get_or_from_slice_get, slice_get-get_or, slice_get_cases}
-use Rattle.std.specs.{List.{slice_get}, Option.{option_to_list}, Prelude.{filter, find, nat_le, not, option_map, unwrap_or}}
-use Rattle.bd_buffers.specs.{Record.{hand_over, is_record_at, made_of_record, record_in}, Rows.{AreRows, IsLiveRow, ended, ends_empty, live, live_places, lives}, declared.record.Record.{Record}}
-use Rattle.bd_keys.proofs.Rising.{AllOthers, Rising, distinct, find_at, find_none, newest_all}
-use Rattle.bd_space.proofs.Keyed.{changed_at, length_changed, pairs_changed}
-use Rattle.bd_space.specs.Words.{changed}
+use Rattle.bd_buffers.proofs.Words.{All, All-head, All-tail, AllOthers, AllPairs-filter, AreRows, Bool, IsLiveRow, List, None, Option, Record, Rising, Some, all_pairs_push, ap, append-nil, arith, changed, changed_at, cond, distinct, drop, drop-cons, drop_all, ended, ends_empty, false, filter, filter-append}
+use Rattle.bd_buffers.proofs.Words.{filter_passes, find, find_at, find_none, get_or, get_or-append, get_or_from_slice_get, get_or_push, hand_over, is_record_at, le-leb, length, length-map, length_changed, length_push, live, live_places, lives, lt-leb, made_of_record, nat_le, newest_all, not, option_map}
+use Rattle.bd_buffers.proofs.Words.{option_to_list, pairs_changed, record_in, refl, set, slice_get, slice_get-get_or, slice_get_cases, subst, suc, sym, true, unwrap_or, zero, ℕ, [], ◌++◌, ◌+◌, ◌-◌, ◌<◌, ◌∙◌, ◌∷◌, ◌≡◌, ◌≤◌}
 use Rattle.bd_buffers.proofs.{InSpace.{filter_changed, filter_kept}, Made.{find_kept}}
 
 abbrev is_empty : Record → Bool

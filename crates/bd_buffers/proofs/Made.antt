@@ -1,12 +1,45 @@
 -- Where a search by a key that rises ends, and what is found where elements come or go.
-use Rattle.std.proofs.{Common.{All, Bool, List, ap, arith, cond, false, get_or, length, ltb, map, refl, suc, sym, true, ℕ, [], ◌<◌, ◌∙◌, ◌∷◌, ◌≡◌, ◌≤◌}, lemmas.Bool.{eqb-true, ltb-false, ltb-true}}
-use Rattle.std.proofs.{lemmas.List.{get_or-map, length-map}, lemmas.List.Sorted.{IsPartitionedBy-ltb}, lemmas.Option.{slice_get-get_or}}
-use Rattle.std.specs.{List.{slice_get}, List.Sorted.{IsBinarySearchResult, IsNonDecreasingBy, IsPartitionPoint, IsPartitionedBy, IsSearchInRange}, Ordering.{nat_cmp}}
-use Rattle.std.specs.{Prelude.{Err, MatchOption, Ok, Option, Result, Some, filter, find, not, ◌==◌}, Result.{result_ok}}
-use Rattle.bd_buffers.specs.Rows.{IsWithout, kept}
-use Rattle.bd_ground.proofs.Tiling.{apart}
-use Rattle.bd_keys.proofs.Rising.{Distinct, Rising, distinct, filter_none, find_at, find_none, pairs_tail, rest_differ}
+use Rattle.bd_buffers.proofs.Words.{All, All-cons, All-head, All-tail, AllPairs, Bool, Distinct, Err, IsBinarySearchResult, IsNonDecreasingBy, IsPartitionPoint, IsPartitionedBy, IsPartitionedBy-ltb, IsSearchInRange, IsWithout, List, MatchOption, Ok, OnErr, OnOk, Option, Result, Rising, Some, ap, arith, changed}
+use Rattle.bd_buffers.proofs.Words.{cond, distinct, eqb-true, false, filter, filter_none, find, find_at, find_none, get_or, get_or-map, kept, length, length-map, ltb, ltb-false, ltb-true, map, nat_cmp, not, pairs_head, pairs_tail, refl, rest_differ, result_ok, slice_get, slice_get-get_or, suc, sym, true, ℕ, []}
+use Rattle.bd_buffers.proofs.Words.{◌<◌, ◌==◌, ◌∙◌, ◌∷◌, ◌≡◌, ◌≤◌}
 use Rattle.bd_keys.proofs.Rising.{searched as by_halves}
+
+-- ---- some elements changed or left out
+
+-- what each element keeps where those that pass are changed
+pub All_changed : {A : Type 0} (p : A → Bool) (f : A → A) (P : A → Type 0) → ((x : A) → P x → P (f x)) → (xs : List A) → All P xs → All P (changed p f xs)
+All_changed p f P k [] all = all
+All_changed p f P k (x ∷ xs) all = grind (arith, All-head, All-cons, All-tail, All_changed p f P k xs (All-tail P x xs all))
+
+-- nothing is left where none passes
+pub none_left : {A : Type 0} (p : A → Bool) (xs : List A) → All (λ x. p x ≡ false) xs → filter p xs ≡ []
+none_left p [] all = refl
+none_left p (x ∷ xs) all = grind (arith, All-head, All-tail, none_left p xs (All-tail (λ y. p y ≡ false) x xs all))
+
+-- ---- answers
+
+module _ {A E : Type 0} (P Q : Type 0) (f : P → Q) where
+  pub on_ok : (r : Result A E) → OnOk r P → OnOk r Q
+  on_ok r p = search arith
+
+  pub on_err : (r : Result A E) → OnErr r P → OnErr r Q
+  on_err r p = search arith
+
+pub refused : {A E : Type 0} (r : Result A E) (P : Type 0) → P → OnErr r P
+refused r P p = search arith
+
+-- ---- pairs
+
+module _ {A : Type 0} (R : A → A → Type 0) where
+  pub pairs_cons : (x : A) (xs : List A) → All (R x) xs → AllPairs R xs → AllPairs R (x ∷ xs)
+  pairs_cons x xs all pairs h2 h3 d lt h = search arith
+
+  pub pairs_changed : (p : A → Bool) (f : A → A) → ((x y : A) → R x y → R (f x) y) → ((x y : A) → R x y → R x (f y)) → (xs : List A) → AllPairs R xs → AllPairs R (changed p f xs)
+  pairs_changed p f left right [] pairs = pairs
+  pairs_changed p f left right (x ∷ xs) pairs =
+      let rest = pairs_changed p f left right xs (pairs_tail R x xs pairs) in
+      let all = All_changed p f (R x) (right x) xs (pairs_head R x xs pairs) in
+      elim (p x) as (λ b. AllPairs R (cond b (f x) x ∷ changed p f xs)) [ true ↦ pairs_cons (f x) (changed p f xs) (λ k d h. left x _ (all k d h)) rest | false ↦ pairs_cons x (changed p f xs) all rest ]
 
 module _ {A : Type 0} (key : A → ℕ) where
   -- where a search by the key ends

@@ -1,9 +1,6 @@
 -- Windows stay where a process asks for reports of flooding, or no longer.
-use Rattle.std.proofs.{Common.{Bool, List, arith, map, refl, ℕ, [], ◌+◌, ◌∷◌, ◌≡◌}, lemmas.List.Elements.{All-weaker}}
-use Rattle.std.specs.Prelude.{◌==◌}
-use Rattle.bd_buffers.specs.{WindowsStand.{AreMade, StandsIn, WindowsOf, window_of}, declared.windows.Windows.{Windows}}
-use Rattle.bd_space.specs.{Words.{changed}, Seats.{lives_in}, Space.{Space}, Spam.{detecting, with_spam_detection}, declared.space.Buffer.{Buffer}, declared.space.Process.{Process}}
-use Rattle.bd_buffers.proofs.Changes.{All_changed, pairs_changed}
+use Rattle.bd_buffers.proofs.Words.{All-weaker, AreMade, Bool, Buffer, List, Process, Space, StandsIn, Windows, WindowsOf, arith, changed, detecting, lives_in, map, refl, window_of, with_spam_detection, ℕ, [], ◌+◌, ◌==◌, ◌∷◌, ◌≡◌}
+use Rattle.bd_buffers.proofs.Made.{All_changed, pairs_changed}
 
 module _ (m : Process → Bool) (on : Bool) where
   windows_marked : (bs : List Buffer) (ps : List Process) → map (window_of bs) (changed m (detecting on) ps) ≡ map (window_of bs) ps

@@ -1,15 +1,8 @@
 -- What a window keeps, through each change.
-use Rattle.std.proofs.{Common.{All, Bool, List, Ok, ap, arith, false, get_or, inl, inr, length, refl, subst, sym, ℕ, [], ◌++◌, ◌+◌, ◌/◌, ◌<◌, ◌∙◌, ◌∷◌, ◌≡◌, ◌≤◌, ◌⊎◌}, lemmas.List.{get_or_push, length_push}}
-use Rattle.std.proofs.lemmas.List.Elements.{All-filter, All-map, All-push}
-use Rattle.std.specs.{List.{between}, Prelude.{Some, filter, not, option_map, slice_index}}
-use Rattle.bd_buffers.specs.{Buffer.{IsApart, one_way_share, share_from}, Record.{IsInMemory, all_standing, bare, hand_over, is_record_at, record_in, standing}, Rows.{IsWithout, kept}, Sums.{AreNoted}}
-use Rattle.bd_buffers.specs.{Window.{Keeps, Notes, is_free_unit}, declared.ground.Ground.{Ground}, declared.record.Record.{Record}}
-use Rattle.bd_ground.specs.Tiles.{Begins, Tiles, with_span, without}
-use Rattle.bd_keys.proofs.Lists.{All_remove}
-use Rattle.bd_space.specs.{Words.{changed}, Freeing.{is_made_at}, ReadItems.{hand_out}, Spam.{one_way_from}, Windows.{needed, start_for}, declared.space.Buffer.{Buffer}}
-use Rattle.bd_buffers.proofs.{Changes.{All_changed}, Kept.{is_one_way, total_handed, total_push, total_removed, window_handed, window_push, window_removed}, Listed.{starts_noted}, Made.{gone_at}, Places.{IsGiven, given_says}}
-use Rattle.bd_buffers.proofs.{Shares.{sums_handed, sums_pushed, sums_without}, Standing.{all_of, all_stay, found_standing, handed_standing, in_longer, kept_standing, pushed_standing, same_standing}}
-use Rattle.bd_buffers.proofs.Units.{begins_there, taken_units, tiles_handed, tiles_less, tiles_more}
+use Rattle.bd_buffers.proofs.Words.{All, All-filter, All-map, All-push, All_remove, AreNoted, Begins, Bool, Buffer, Ground, IsApart, IsInMemory, IsWithout, Keeps, List, Notes, Ok, Record, Some, Tiles, all_standing, ap, arith, bare, between, changed, false, filter, get_or, get_or_push, hand_out, hand_over, inl}
+use Rattle.bd_buffers.proofs.Words.{inr, is_free_unit, is_made_at, is_record_at, length, length_push, needed, not, one_way_from, one_way_share, option_map, record_in, refl, share_from, slice_index, standing, start_for, subst, sym, with_span, without, ℕ, [], ◌++◌, ◌+◌, ◌/◌, ◌<◌, ◌∙◌, ◌∷◌, ◌≡◌, ◌≤◌, ◌⊎◌}
+use Rattle.bd_buffers.proofs.{Kept.{is_one_way, starts_noted, sums_handed, sums_pushed, sums_without, total_handed, total_push, total_removed, window_handed, window_push, window_removed}, Made.{All_changed, gone_at}, Places.{IsGiven, given_says}}
+use Rattle.bd_buffers.proofs.{Standing.{all_of, all_stay, found_standing, handed_standing, in_longer, kept_standing, pushed_standing, same_standing}, Units.{begins_there, taken_units, tiles_handed, tiles_less, tiles_more}}
 
 -- ---- a buffer is handed out
 
@@ -28,8 +21,7 @@ notes_without : (b : Buffer) (bs new : List Buffer) (g left : Ground) → Notes 
     → ((free : ℕ → Bool) → Tiles free g.spans → ((u : ℕ) → b.start / 8 ≤ u → u < b.start / 8 + b.size / 8 → free u ≡ false) → Tiles (with_span (b.start / 8) (b.size / 8) free) left.spans)
     → left.starts ≡ g.starts → left.one_way + one_way_share b ≡ g.one_way → ((f : ℕ → ℕ) → AreNoted g.senders (λ m. f m + share_from m b) → AreNoted left.senders f) → Notes new left
 notes_without b bs new g left is gone size units spans starts share senders =
-    let less = total_removed is_one_way bs gone.index b gone.within in
-    let own = gone.at b in
+    let less = total_removed is_one_way bs gone.index b gone.within in let own = gone.at b in
     let rest = gone.left in
     record {
       window = rw (size, gone.left) (window_removed g.size gone.index bs b is.window gone.within);
@@ -61,9 +53,7 @@ pub keeps_memory : (rs : List Record) (g left : Ground) → Keeps rs g → left.
     → ((i j : ℕ) → j ≤ length g.memory → between i j left.memory ≡ between i j g.memory) → length g.memory ≤ length left.memory
     → left.spans.size ≡ g.spans.size → ((free : ℕ → Bool) → Tiles free g.spans → Tiles free left.spans) → Keeps rs left
 keeps_memory rs g left is size one_way senders starts kept longer units tiles =
-    let bs = all_standing g.memory rs in
-    let whole = is.notes.whole in
-    let total = is.notes.total in
+    let bs = all_standing g.memory rs in let whole = is.notes.whole in let total = is.notes.total in
     record {
       notes = rw (all_stay g.memory left.memory kept rs is.there) (record {
         window = rw size is.notes.window;
@@ -78,15 +68,12 @@ keeps_memory rs g left is size one_way senders starts kept longer units tiles =
 
 -- ---- a buffer comes
 
-abbrev pub AreBeside : List ℕ → List ℕ → Record → Type 0
-AreBeside m n r = (x : Record) → IsInMemory m x → (x.start + x.size ≤ r.start) ⊎ (r.start + r.size ≤ x.start) → standing n x ≡ standing m x
-
 -- a record that lays a new buffer out beside those that are there
 pub record IsNew (r : Record) (rs : List Record) (g : Ground) (m : List ℕ) : Type 0 where
   pub newest : All (λ x. x.made < r.made) rs
   pub sized : r.size ≡ needed (length (standing m r).bytes) (length (standing m r).offsets)
   pub place : start_for g.size (all_standing g.memory rs) r.one_way r.size ≡ Ok r.start
-  pub others : AreBeside g.memory m r
+  pub others : (x : Record) → IsInMemory g.memory x → (x.start + x.size ≤ r.start) ⊎ (r.start + r.size ≤ x.start) → standing m x ≡ standing g.memory x
 
 -- where it stands for a buffer that may come
 pub is_new : (b : Buffer) (r : Record) (rs : List Record) (g : Ground) (m : List ℕ) → standing m r ≡ b → All (λ x. x.made < b.made) (all_standing g.memory rs) → b.size ≡ needed (length b.bytes) (length b.offsets)
@@ -123,12 +110,10 @@ module _ (r : Record) (rs : List Record) (g left : Ground) (is : Keeps rs g) (co
       → slice_index left.starts.items (r.start / 8) ≡ r.made → ((j : ℕ) → (j ≡ r.start / 8 → ⊥) → slice_index left.starts.items j ≡ slice_index g.starts.items j)
       → left.one_way ≡ g.one_way + one_way_share (bare r) → AreNoted left.senders (λ m. one_way_from old m + share_from m (bare r)) → Keeps (rs ++ r ∷ []) left
   keeps_pushed inside len size units tiles at others_at share senders =
-      let sized = comes.sized in
-      let pushed = total_push is_one_way old new in
+      let sized = comes.sized in let pushed = total_push is_one_way old new in
       let window = window_push g.size old new is.notes.window (All-map (λ b. b.made < r.made) (standing g.memory) rs comes.newest) sized comes.place in
       let placed = rw (get_or_push old new new (length old) refl) at (window.placed (length old) new (omega (arith, length_push old new))) in
-      let whole = is.notes.whole in
-      let total = is.notes.total in
+      let whole = is.notes.whole in let total = is.notes.total in
       record {
         notes = rw with_new (record {
           window = rw size window;

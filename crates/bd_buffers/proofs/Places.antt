@@ -1,20 +1,11 @@
 -- The least place that fits.
-use Rattle.std.proofs.{Common.{Bool, List, arith, false, refl, suc, sym, true, zero, ℕ, ◌%◌, ◌*◌, ◌+◌, ◌/◌, ◌<◌, ◌≡◌, ◌≤◌}, lemmas.List.Elements.{All-weaker}, lemmas.List.Sums.{AllPass-from_list_all, list_all-from_AllPass}}
-use Rattle.std.specs.Prelude.{Err, IfErr, IfOk, IsTrue, None, Ok, Option, Result, Some, option_map, ◌&&◌}
-use Rattle.bd_buffers.specs.{Stands.{CanHold, Stands}, Window.{IsFree, IsInBudget, IsLeastFree, IsWindow, Refuses, one_way_size}, declared.window.Window.{Window}}
-use Rattle.bd_space.specs.{Words.{and_then, least, ok_or, unless, when}, Windows.{fits_in, needed, over_budget_in, start_for, start_in}, declared.space.Buffer.{Buffer}}
-use Rattle.bd_uapi.specs.{declared.fault.Cause.{Cause}, declared.fault.Cause.TheVariants.{NoRoom, OverBudget}}
+use Rattle.bd_buffers.proofs.Words.{All-weaker, AllPass-from_list_all, Bool, Buffer, CanHold, Cause, Err, IfErr, IfOk, IsFree, IsInBudget, IsLeastFree, IsTrue, IsWindow, List, NoRoom, None, Ok, Option, OverBudget, Refuses, Result, Some, Stands, Window, and_then, arith, false, fits_in, least}
+use Rattle.bd_buffers.proofs.Words.{list_all-from_AllPass, needed, ok_or, one_way_size, option_map, over_budget_in, refl, start_for, start_in, suc, sym, true, unless, when, zero, ℕ, ◌%◌, ◌&&◌, ◌*◌, ◌+◌, ◌/◌, ◌<◌, ◌≡◌, ◌≤◌}
 
 -- ---- the least number that passes
 
 -- what the least number is
-pub record IsLeast (p : ℕ → Bool) (n k m : ℕ) : Type 0 where
-  pub low : k ≤ m
-  pub high : m < k + n
-  pub passes : p m ≡ true
-  pub below : (j : ℕ) → k ≤ j → j < m → p j ≡ false
-
-pub least_says : (p : ℕ → Bool) (n k m : ℕ) → least n k p ≡ Some m → IsLeast p n k m
+pub least_says : (p : ℕ → Bool) (n k m : ℕ) → least n k p ≡ Some m → (k ≤ m) × (m < k + n) × (p m ≡ true) × ((j : ℕ) → k ≤ j → j < m → p j ≡ false)
 least_says p zero k m e = cc
 least_says p (suc n) k m e = let rest = least_says p n (k + 1) m in grind (arith, true, false)
 
@@ -42,8 +33,8 @@ some_place size buffers n p (Some k) e f =
     let is = least_says (λ j. fits_in size buffers n (8 * j)) (size / 8) 0 k e in
     let at : 8 * k ≡ p = cc in
     rw (← at) (record {
-      room = fits_free size buffers n (8 * k) (omega arith) is.passes;
-      least = λ q room. (let missed = is.below (q / 8) in let met = free_fits size buffers n (8 * (q / 8)) (rw (← eight_times q room.aligned) room) in grind arith);
+      room = fits_free size buffers n (8 * k) (omega arith) is.2;
+      least = λ q room. (let missed = is.3 (q / 8) in let met = free_fits size buffers n (8 * (q / 8)) (rw (← eight_times q room.aligned) room) in grind arith);
     })
 
 -- the place has the least room

@@ -1,8 +1,6 @@
 -- Records, and the buffers that they stand for.
-use Rattle.std.proofs.{Common.{All, Bool, List, ap, arith, get_or, length, map, refl, subst, ℕ, [], ◌++◌, ◌+◌, ◌∷◌, ◌≡◌, ◌≤◌}, lemmas.List.{get_or-map, length-map, map-append}, lemmas.List.Elements.{All-head, All-tail}}
-use Rattle.std.specs.{List.{between}, Prelude.{filter, find, not, option_map}}
-use Rattle.bd_buffers.specs.{Record.{IsInMemory, IsSized, all_standing, hand_over, is_record_at, made_of_record, record_in, standing, with_bytes}, WindowsStand.{made_of_buffer}, declared.record.Record.{Record}}
-use Rattle.bd_space.specs.{Words.{changed, round_up}, Freeing.{is_made_at}, ReadItems.{hand_out}, Returns.{buffer_in}, declared.space.Buffer.{Buffer}}
+use Rattle.bd_buffers.proofs.Words.{All, All-head, All-tail, Bool, Buffer, IsInMemory, IsSized, List, Record, all_standing, ap, arith, between, buffer_in, changed, filter, find, get_or, get_or-map, hand_out, hand_over, is_made_at, is_record_at, length, length-map, made_of_buffer, made_of_record, map, map-append}
+use Rattle.bd_buffers.proofs.Words.{not, option_map, record_in, refl, round_up, standing, subst, with_bytes, ℕ, [], ◌++◌, ◌+◌, ◌∷◌, ◌≡◌, ◌≤◌}
 
 module _ {A B : Type 0} (f : A → B) where
   pub found_of : (r : B → Bool) (xs : List A) → find r (map f xs) ≡ option_map f (find (λ y. r (f y)) xs)

@@ -1,12 +1,7 @@
 -- What is free of a window, by bytes and by units of eight.
-use Rattle.std.proofs.{Common.{All, Bool, List, arith, false, get_or, inl, inr, length, map, refl, suc, sym, true, zero, ℕ, [], ◌%◌, ◌*◌, ◌++◌, ◌+◌, ◌-◌, ◌/◌, ◌<◌, ◌∷◌, ◌≡◌, ◌≤◌}, Math.Bool.{and-false, and-true, and_assoc}}
-use Rattle.std.proofs.{lemmas.Bool.{cases_Bool}, lemmas.Grind.{common_steps}, lemmas.List.Elements.{All-cons, All-weaker}, lemmas.List.Sums.{AllPass-from_list_all, list_all-from_AllPass}}
-use Rattle.std.specs.{List.{list_all}, Prelude.{AllPairs, None, Some, not, remove, ◌&&◌}}
-use Rattle.bd_buffers.specs.{Buffer.{IsApart, IsPlaced}, Holes.{Covered, IsHoles, Spaced, in_bytes}, Rows.{IsWithout}, Window.{IsFree, IsLeastFree, IsWindow, is_free_byte, is_free_unit}}
-use Rattle.bd_ground.proofs.{Bits.{IsIn, IsOut, in_or_out, is_in_false, is_in_true}, Tiling.{begins_of_least, tiles_same}}
-use Rattle.bd_ground.specs.{Tiles.{Begins, IsLeastRun, IsRun, Tiles, is_in, with_span, without}, declared.spans.Spans.{Spans}}
-use Rattle.bd_keys.proofs.Rising.{pairs_head, pairs_tail}
-use Rattle.bd_space.specs.{Words.{changed}, ReadItems.{hand_out}, Windows.{start_in}, declared.space.Buffer.{Buffer}}
+use Rattle.bd_buffers.proofs.Words.{All, All-cons, All-weaker, AllPairs, AllPass-from_list_all, Begins, Bool, Buffer, Covered, IsApart, IsFree, IsHoles, IsIn, IsLeastFree, IsLeastRun, IsOut, IsPlaced, IsRun, IsWindow, IsWithout, List, None, Some, Spaced, Spans, Tiles, and-false, and-true, and_assoc, arith}
+use Rattle.bd_buffers.proofs.Words.{begins_of_least, cases_Bool, changed, common_steps, false, get_or, hand_out, in_bytes, in_or_out, inl, inr, is_free_byte, is_free_unit, is_in, is_in_false, is_in_true, length, list_all, list_all-from_AllPass, map, not, pairs_head, pairs_tail, refl, remove, start_in, suc, sym}
+use Rattle.bd_buffers.proofs.Words.{tiles_same, true, with_span, without, zero, ℕ, [], ◌%◌, ◌&&◌, ◌*◌, ◌++◌, ◌+◌, ◌-◌, ◌/◌, ◌<◌, ◌∷◌, ◌≡◌, ◌≤◌}
 use Rattle.bd_buffers.proofs.Places.{no_start_at, start_at}
 use Rattle.bd_ground.specs.Holes as units
 
@@ -117,9 +112,7 @@ free_less : (size u : ℕ) (b : Buffer) (bs new : List Buffer) → IsWindow size
 free_less size u b bs new window gone =
     let placed : IsPlaced size b = rw (gone.at b) (window.placed gone.index b gone.within) in
     let both = all_removed (λ x. not (is_in x.start x.size (8 * u))) bs gone.index b gone.within in
-    let in_unit = unit_in size u b placed in
-    let here = gone.at b in
-    let rest = gone.left in
+    let in_unit = unit_in size u b placed in let here = gone.at b in let rest = gone.left in
     elim (in_or_out b.start b.size (8 * u)) [
       | inl own ↦ (
           let all = out_free (remove bs gone.index) (8 * u) (others_out size gone.index (8 * u) bs b window gone.within gone.at own) in
@@ -140,8 +133,7 @@ pub before_tail : (size : ℕ) (b : Buffer) (bs new : List Buffer) (t : Spans) �
 before_tail size b bs new t window gone tiles =
     let full = filled size b (rw (gone.at b) (window.placed gone.index b gone.within)) in
     let taken = taken_units size (b.start / 8 + b.size / 8 - 1) b bs new window gone in
-    let behind = tiles.behind (b.start / 8 + b.size / 8 - 1) in
-    grind arith
+    let behind = tiles.behind (b.start / 8 + b.size / 8 - 1) in grind arith
 
 -- ---- one handed out
 

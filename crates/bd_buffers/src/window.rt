@@ -1,9 +1,7 @@
 //! A window.
 
 ghost use Rattle.std.specs.Prelude.{◌≡◌, ◌↔◌, ◌+◌, ◌*◌, ◌%◌, ◌<◌, ◌≤◌, [], ◌∷◌, ◌++◌, not, ℕ, Bool, List, All, length, filter, find, map, IsTrue, IsOk, IfOk, IfErr, IfSome, OnOk, OnErr, AllPairs};
-ghost use Rattle.bd_space.specs.{declared.space.Buffer.{Buffer}, Words.{changed}};
-ghost use Rattle.bd_space.specs.{Windows.{needed, start_in, over_budget_in, start_for}, Freeing.{is_made_at}};
-ghost use Rattle.bd_space.specs.{ReadItems.{hand_out}, Returns.{buffer_in}, Spam.{floods}};
+ghost use Rattle.bd_space.specs.{declared.space.Buffer.{Buffer}, Words.{changed}, Windows.{needed, start_in, over_budget_in, start_for}, Freeing.{is_made_at}, ReadItems.{hand_out}, Returns.{buffer_in}, Spam.{floods}};
 
 use crate::buffer::{needed, one_way_share, pointer_of};
 use crate::ground::{Ground, end_made, note};
@@ -185,7 +183,7 @@ impl Window {
     }
 
     /// Takes the newest buffer in, at a place that the window can take it at. Takes no memory.
-    #[tactic(auto, using(crate::proofs::Places::holds_inside, crate::proofs::Shares::at_sender, crate::proofs::Shares::from_within, crate::proofs::Kept::share_within, crate::proofs::Kept::is_one_way))]
+    #[tactic(auto, using(crate::proofs::Places::holds_inside, crate::proofs::Kept::at_sender, crate::proofs::Kept::from_within, crate::proofs::Kept::share_within, crate::proofs::Kept::is_one_way))]
     #[inline(always)]
     pub fn commit(&mut self, buffer: Lent<'_>)
         requires room { HasBufferRoom self.old buffer.start buffer.size }

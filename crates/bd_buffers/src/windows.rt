@@ -1,13 +1,9 @@
 //! The windows of all live processes.
 
-ghost use Rattle.std.specs.Prelude.{◌≡◌, ◌≤◌, ◌++◌, ℕ, Bool, false, find, IfOk, IfSome, MatchOption, OnOk, OnErr, Some, None, Err, length, List, [], map, option_map};
-ghost use Rattle.std.specs.Option.{option_copied};
+ghost use Rattle.std.specs.{Prelude.{◌≡◌, ◌≤◌, ◌++◌, ℕ, Bool, false, find, IfOk, IfSome, MatchOption, OnOk, OnErr, Some, None, Err, length, List, [], map, option_map}, Option.{option_copied}};
 ghost use Rattle.bd_uapi.specs.declared.fault.Cause.TheVariants.{NoRoom};
-ghost use Rattle.bd_space.specs.{declared.space.Process.{Process}, declared.space.Work.{Work}, Space.{Space, opening}};
-ghost use Rattle.bd_space.specs.{Seats.{process_in}, Windows.{needed, start_for, buffers_of}, Delivery.{add_buffer}};
-ghost use Rattle.bd_space.specs.{Freeing.{without_buffer, buffer_at_pointer}, Returns.{buffer_in}, Spam.{floods}};
-ghost use Rattle.bd_space.specs.{ReadItems.{buffer_taken, read_by}, Steps.{with_process}};
-ghost use Rattle.bd_space.specs.ProcessExits.{without_process};
+ghost use Rattle.bd_space.specs.{declared.space.Process.{Process}, declared.space.Work.{Work}, Space.{Space, opening}, Seats.{process_in}, Windows.{needed, start_for, buffers_of}, Delivery.{add_buffer}, Freeing.{without_buffer, buffer_at_pointer}};
+ghost use Rattle.bd_space.specs.{Returns.{buffer_in}, Spam.{floods}, ReadItems.{buffer_taken, read_by}, Steps.{with_process}, ProcessExits.{without_process}};
 ghost use Rattle.bd_ways.specs.Tables.{Tells, Makes};
 ghost use Rattle.bd_buffers.specs.WindowsStand.{StandsFor, StandsIn, Stands, window_room, HasBufferRoom, made_of_buffer, next_made, is_owned_by, CanAdd, IsInWindow};
 
@@ -144,7 +140,7 @@ impl Windows {
     }
 
     /// Makes room for one more buffer of a size at a place in the window of a process. All stays as it was, also on an `Err`.
-    #[tactic(auto, using(crate::proofs::AllWindows::stay, crate::proofs::AllWindows::stay_seen, crate::proofs::Homes::homes_same, crate::proofs::Changes::refused), unfolding(crate::specs::WindowsStand::CanAdd, crate::specs::WindowsStand::HasBufferRoom))]
+    #[tactic(auto, using(crate::proofs::AllWindows::stay, crate::proofs::AllWindows::stay_seen, crate::proofs::InSpace::homes_same, crate::proofs::Made::refused), unfolding(crate::specs::WindowsStand::CanAdd, crate::specs::WindowsStand::HasBufferRoom))]
     #[inline(always)]
     pub fn reserve_buffer(&mut self, p: u64, start: u32, size: u32) -> Result<(), AllocError>
         ensures stands { Makes (StandsFor self.old) (StandsFor self.new) (λ s. s) }
@@ -203,7 +199,7 @@ impl Windows {
     }
 
     // The same, where no guess tells whose window it is in.
-    #[tactic(auto, using(bd_keys::proofs::Rising::find_none, crate::proofs::Homes::none_home))]
+    #[tactic(auto, using(bd_keys::proofs::Rising::find_none, crate::proofs::InSpace::none_home))]
     #[inline(never)]
     fn at_home(&self, made: u64) -> Option<Lent<'_>>
         ensures found { Tells (StandsIn self.now) result (λ s. buffer_in s.buffers made) }

@@ -1,9 +1,6 @@
 -- What is free of a window where a span is taken or given back.
-use Rattle.std.proofs.{Common.{Bool, arith, false, sym, true, ℕ, ◌+◌, ◌<◌, ◌∙◌, ◌≡◌, ◌≤◌, ◌⊎◌}, lemmas.Bool.{false≢true, le-leb, le-ltb, lt-leb, lt-ltb}}
+use Rattle.std.proofs.{Common.{Bool, arith, false, true, ℕ, ◌+◌, ◌<◌, ◌≡◌, ◌≤◌, ◌⊎◌}, lemmas.Bool.{le-leb, le-ltb, lt-leb, lt-ltb}}
 use Rattle.bd_ground.specs.Tiles.{is_in, with_span}
-
-pub clash : {A : Type 0} (b : Bool) → b ≡ true → b ≡ false → A
-clash b p q = absurd (false≢true (sym q ∙ p))
 
 abbrev pub IsOut : ℕ → ℕ → ℕ → Type 0
 IsOut p n u = (u < p) ⊎ (p + n ≤ u)

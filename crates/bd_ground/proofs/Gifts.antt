@@ -64,7 +64,7 @@ module _ (free : ℕ → Bool) (t : Spans) (p n b : ℕ) (is : Tiles free t) (so
     not_behind = search arith
 
     new_end : p + n + hole_at t (p + n) < t.tail
-    new_end = elim (cases_lt 0 (hole_at t (p + n))) [ inl pos ↦ (let h = is.holes (p + n) pos in omega arith) | inr none ↦ omega arith ]
+    new_end = let h = is.holes (p + n) in grind arith
 
     new_free : (u : ℕ) → b ≤ u → u < p + n + hole_at t (p + n) → with_span p n free u ≡ true
     new_free u low high = search arith

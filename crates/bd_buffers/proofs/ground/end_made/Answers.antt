@@ -1,13 +1,10 @@
-use Rattle.std.proofs.Common.{Some, ap, arith, sym}
-use Rattle.bd_buffers.specs.{Buffer.{one_way_share}, Record.{all_standing, is_record_at, made_of_record, standing}}
-use Rattle.bd_keys.proofs.{Found.{none_found}, Rising.{filter_none}}
-use Rattle.bd_buffers.proofs.{Kept.{is_one_way, total_removed}, Noted.{gone_of, keeps_without}, Shares.{share_there}, Units.{before_tail, filled}}
+use Rattle.bd_buffers.proofs.Words.{Some, all_standing, ap, arith, filter_none, is_record_at, made_of_record, none_found, one_way_share, standing, sym}
+use Rattle.bd_buffers.proofs.{Kept.{is_one_way, share_there, total_removed}, Noted.{gone_of, keeps_without}, Units.{before_tail, filled}}
 use Rattle.bd_buffers.proofs.ground.end_made.Goals as goal
 
 pub release-requires : goal.release-requires
 release-requires c =
-    let g = c.args.ground.now in
-    let b = standing g.memory c.in-Some.record in
+    let g = c.args.ground.now in let b = standing g.memory c.in-Some.record in
     let gone = gone_of c.args.made c.in-Some.record c.args.buffers.now.records g c.requires.kept (sym c.in-Some.ensures.taken) in
     let less = total_removed is_one_way (all_standing g.memory c.args.buffers.now.records) gone.index b gone.within in
     record {

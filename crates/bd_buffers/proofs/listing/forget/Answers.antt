@@ -1,7 +1,5 @@
-use Rattle.std.proofs.{Common.{List, None, cond, false, get_or, length, sym, take, true, ℕ, ◌+◌, ◌<◌, ◌∙◌, ◌≡◌}, lemmas.List.{append-nil, map_push}, lemmas.List.Elements.{filter_more}}
-use Rattle.bd_buffers.specs.{Homes.{Forgets, home_key}, Record.{made_of_record}, Rows.{live_places, lives}, declared.record.Record.{Record}}
-use Rattle.bd_keys.specs.{Keys.{same_word}, Look.{look}, declared.key.WordKey.{WordKey}, declared.map.WordMap.{WordMap}}
-use Rattle.bd_buffers.proofs.Homes.{forgets_more}
+use Rattle.bd_buffers.proofs.Words.{Forgets, List, None, Record, WordKey, WordMap, append-nil, cond, false, filter_more, get_or, home_key, length, live_places, lives, look, made_of_record, map_push, same_word, sym, take, true, ℕ, ◌+◌, ◌<◌, ◌∙◌, ◌≡◌}
+use Rattle.bd_buffers.proofs.InSpace.{forgets_more}
 use Rattle.bd_buffers.proofs.listing.forget.Goals as goal
 use Rattle.bd_buffers.proofs.listing.forget.Goals.{then-is_live, else-is_live}
 
@@ -16,9 +14,7 @@ kept rows i d old new lt t forgets = simp (filter_more lives rows i d lt, t, app
 
 pub loop-gone-preserved : goal.loop-gone-preserved
 loop-gone-preserved c =
-    let rows = c.args.rows.now in
-    let old = c.args.homes.now in
-    let i = c.loop-gone.gone-index in
+    let rows = c.args.rows.now in let old = c.args.homes.now in let i = c.loop-gone.gone-index in
     elim c.if-is_live.branch [
       | then-is_live w ↦ rw w.homes-is (forgotten rows i _ old c.loop-gone.homes w.remove-home.new.self c.loop-gone-test.true (sym c.is_live.ensures ∙ w.if-is_live.true) c.loop-gone.invariant
           (λ k. rw w.home_key.ensures at (w.remove-home.ensures.gone k)))

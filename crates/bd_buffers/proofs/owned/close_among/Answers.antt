@@ -1,5 +1,4 @@
-use Rattle.std.proofs.{Common.{not, rules, tests}, lemmas.Fn.{filter_same}}
-use Rattle.bd_buffers.specs.{WindowsStand.{is_owned_by}, declared.owned.OwnedWindow.{OwnedWindow}}
+use Rattle.bd_buffers.proofs.Words.{OwnedWindow, filter_same, is_owned_by, not, rules, tests}
 use Rattle.bd_buffers.proofs.owned.close_among.Goals as goal
 
 pub returns : goal.returns

@@ -1,8 +1,5 @@
-use Rattle.std.proofs.Common.{Some, sym, ◌∙◌}
-use Rattle.std.specs.Prelude.{None}
-use Rattle.bd_buffers.specs.declared.owned.OwnedWindow.{OwnedWindow}
-use Rattle.bd_keys.proofs.Rising.{find_none}
-use Rattle.bd_buffers.proofs.{Made.{look_found}, Owners.{look_copied}}
+use Rattle.bd_buffers.proofs.Words.{None, OwnedWindow, Some, find_none, sym, ◌∙◌}
+use Rattle.bd_buffers.proofs.{AllWindows.{look_copied}, Made.{look_found}}
 use Rattle.bd_buffers.proofs.owned.owned_by.Goals as goal
 
 pub returns-in-Some : goal.returns-in-Some

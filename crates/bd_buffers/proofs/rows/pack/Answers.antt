@@ -1,5 +1,4 @@
-use Rattle.std.proofs.{Common.{rules, tests}, lemmas.Fn.{filter_same}}
-use Rattle.bd_buffers.specs.Rows.{lives}
+use Rattle.bd_buffers.proofs.Words.{filter_same, lives, rules, tests}
 use Rattle.bd_buffers.proofs.Live.{packed_live, packed_rows}
 use Rattle.bd_buffers.proofs.rows.pack.Goals as goal
 

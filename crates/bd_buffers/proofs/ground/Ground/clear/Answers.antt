@@ -1,5 +1,4 @@
-use Rattle.std.proofs.Common.{arith, refl, []}
-use Rattle.bd_buffers.specs.Window.{is_free_unit}
+use Rattle.bd_buffers.proofs.Words.{arith, is_free_unit, refl, []}
 use Rattle.bd_buffers.proofs.ground.Ground.clear.Goals as goal
 
 pub returns-clause-kept : goal.returns-clause-kept

@@ -1,4 +1,4 @@
-use Rattle.std.proofs.Common.{arith, refl}
+use Rattle.bd_buffers.proofs.Words.{arith, refl}
 use Rattle.bd_buffers.proofs.{Noted.{keeps_memory}, Standing.{all_stay}}
 use Rattle.bd_buffers.proofs.ground.Ground.reserve.Goals as goal
 

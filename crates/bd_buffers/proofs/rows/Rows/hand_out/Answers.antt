@@ -1,8 +1,4 @@
-use Rattle.std.proofs.Common.{Some, sym, ◌≡◌}
-use Rattle.bd_buffers.specs.{Record.{hand_over, is_record_at, made_of_record}, Rows.{live}}
-use Rattle.bd_keys.proofs.Found.{none_found}
-use Rattle.bd_space.proofs.Keyed.{changed_none}
-use Rattle.bd_space.specs.Words.{changed}
+use Rattle.bd_buffers.proofs.Words.{Some, changed, changed_none, hand_over, is_record_at, live, made_of_record, none_found, sym, ◌≡◌}
 use Rattle.bd_buffers.proofs.Live.{handed_live, handed_rows, one_changed}
 use Rattle.bd_buffers.proofs.rows.Rows.hand_out.Goals as goal
 

@@ -1,7 +1,4 @@
-use Rattle.std.proofs.{Common.{Some, length, sym, ◌-◌, ◌<◌, ◌≡◌}, lemmas.Bool.{lt-ltb, ltb-true}, lemmas.List.Elements.{All-filter}}
-use Rattle.std.specs.List.{slice_get}
-use Rattle.bd_buffers.specs.{Rows.{lives}, declared.record.Record.{Record}}
-use Rattle.bd_keys.proofs.Rising.{newest_all}
+use Rattle.bd_buffers.proofs.Words.{All-filter, Record, Some, length, lives, lt-ltb, ltb-true, newest_all, slice_get, sym, ◌-◌, ◌<◌, ◌≡◌}
 use Rattle.bd_buffers.proofs.Live.{last_below}
 use Rattle.bd_buffers.proofs.rows.Rows.is_newest.Goals as goal
 

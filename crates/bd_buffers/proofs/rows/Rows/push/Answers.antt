@@ -1,5 +1,4 @@
-use Rattle.std.proofs.Common.{arith, ne_eqb, true, ◌<◌, ◌≡◌}
-use Rattle.bd_buffers.specs.{Rows.{lives}, declared.record.Record.{Record}}
+use Rattle.bd_buffers.proofs.Words.{Record, arith, lives, ne_eqb, true, ◌<◌, ◌≡◌}
 use Rattle.bd_buffers.proofs.Live.{more_live, pushed_rows}
 use Rattle.bd_buffers.proofs.rows.Rows.push.Goals as goal
 

@@ -1,7 +1,4 @@
-use Rattle.std.proofs.Common.{ap, sym, ◌∙◌}
-use Rattle.std.specs.Prelude.{Some}
-use Rattle.bd_buffers.specs.{Record.{is_record_at, made_of_record}, Rows.{live}}
-use Rattle.bd_keys.proofs.{Found.{none_found}, Rising.{filter_none}}
+use Rattle.bd_buffers.proofs.Words.{Some, ap, filter_none, is_record_at, live, made_of_record, none_found, sym, ◌∙◌}
 use Rattle.bd_buffers.proofs.Live.{end_left, found_row}
 use Rattle.bd_buffers.proofs.rows.Rows.take.Goals as goal
 

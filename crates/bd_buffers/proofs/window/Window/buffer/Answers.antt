@@ -1,7 +1,4 @@
-use Rattle.std.proofs.Common.{Some, ap, arith, sym, ◌≡◌}
-use Rattle.bd_buffers.specs.Record.{IsInMemory, all_standing, is_record_at}
-use Rattle.bd_keys.proofs.Found.{found_has}
-use Rattle.bd_space.specs.{Freeing.{is_made_at}, Returns.{buffer_in}, declared.space.Buffer.{Buffer}}
+use Rattle.bd_buffers.proofs.Words.{Buffer, IsInMemory, Some, all_standing, ap, arith, buffer_in, found_has, is_made_at, is_record_at, sym, ◌≡◌}
 use Rattle.bd_buffers.proofs.{Kept.{found_placed}, Standing.{found_standing}}
 use Rattle.bd_buffers.proofs.window.Window.buffer.Goals as goal
 

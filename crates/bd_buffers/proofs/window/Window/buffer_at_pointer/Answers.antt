@@ -1,9 +1,5 @@
-use Rattle.std.proofs.Common.{List, None, Some, ap, arith, eq-eqb, eqb-true, find, refl, ℕ, ◌-◌, ◌/◌, ◌≡◌}
-use Rattle.std.specs.Prelude.{Option, slice_index}
-use Rattle.bd_buffers.specs.{Buffer.{at_pointer}, Record.{all_standing}, Rows.{kept}, Stands.{Stands, WindowTells}, Sums.{noted}, Window.{Keeps}, WindowsStand.{seen}, declared.ground.Ground.{Ground}}
-use Rattle.bd_buffers.specs.{declared.record.Record.{Record}, declared.window.Window.{Window}}
-use Rattle.bd_space.specs.{Returns.{buffer_in}, declared.space.Buffer.{Buffer}}
-use Rattle.bd_buffers.proofs.Listed.{by_start}
+use Rattle.bd_buffers.proofs.Words.{Buffer, Ground, Keeps, List, None, Option, Record, Some, Stands, Window, WindowTells, all_standing, ap, arith, at_pointer, buffer_in, eq-eqb, eqb-true, find, kept, noted, refl, seen, slice_index, ℕ, ◌-◌, ◌/◌, ◌≡◌}
+use Rattle.bd_buffers.proofs.Kept.{by_start}
 use Rattle.bd_buffers.proofs.window.Window.buffer_at_pointer.Goals as goal
 
 -- what the buffer made where it is noted tells of the one with the pointer

@@ -1,5 +1,4 @@
-use Rattle.std.proofs.{Common.{List, ap, arith, length, refl, sym, [], ◌∙◌, ◌∷◌, ◌≡◌}, lemmas.Bool.{eqb-true}}
-use Rattle.bd_buffers.specs.{Rows.{live}, declared.record.Record.{Record}}
+use Rattle.bd_buffers.proofs.Words.{List, Record, ap, arith, eqb-true, length, live, refl, sym, [], ◌∙◌, ◌∷◌, ◌≡◌}
 use Rattle.bd_buffers.proofs.window.Window.clear_empty.Goals as goal
 use Rattle.bd_buffers.proofs.window.Window.clear_empty.Goals.{After-clear}
 

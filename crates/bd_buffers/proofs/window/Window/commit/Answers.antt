@@ -1,6 +1,4 @@
-use Rattle.std.proofs.Common.{ap, arith, refl, [], ◌++◌, ◌+◌, ◌<◌, ◌∙◌, ◌∷◌, ◌≡◌}
-use Rattle.bd_buffers.specs.{Record.{all_standing, standing}, Stands.{CanHold}, declared.ground.Ground.{Ground}, declared.window.Window.{Window}}
-use Rattle.bd_space.specs.Spam.{one_way_from}
+use Rattle.bd_buffers.proofs.Words.{CanHold, Ground, Window, all_standing, ap, arith, one_way_from, refl, standing, [], ◌++◌, ◌+◌, ◌<◌, ◌∙◌, ◌∷◌, ◌≡◌}
 use Rattle.bd_buffers.proofs.{Noted.{IsNew, begins, is_new, keeps_pushed, with_new}, Standing.{all_of}}
 use Rattle.bd_buffers.proofs.window.Window.commit.Goals as goal
 
@@ -28,8 +26,7 @@ comes c = is_new c.args.buffer c.lay-record.result c.self.inside.buffers.records
 
 pub invariant_of-self : goal.invariant_of-self
 invariant_of-self c =
-    let g = c.self.inside.ground in
-    let rs = c.self.inside.buffers.records in
+    let g = c.self.inside.ground in let rs = c.self.inside.buffers.records in
     let r = c.lay-record.result in
     let left : Ground = record {
       size = g.size;

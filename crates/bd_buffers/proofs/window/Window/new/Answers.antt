@@ -1,5 +1,4 @@
-use Rattle.std.proofs.Common.{arith, refl, []}
-use Rattle.bd_buffers.specs.Window.{is_free_unit}
+use Rattle.bd_buffers.proofs.Words.{arith, is_free_unit, refl, []}
 use Rattle.bd_buffers.proofs.Kept.{window_empty}
 use Rattle.bd_buffers.proofs.window.Window.new.Goals as goal
 

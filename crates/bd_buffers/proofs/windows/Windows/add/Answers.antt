@@ -1,9 +1,5 @@
-use Rattle.std.proofs.Common.{List, Some, refl, sym, [], ◌++◌, ◌∷◌}
-use Rattle.std.specs.Prelude.{None}
-use Rattle.bd_buffers.specs.{Stands.{CanHold}, WindowsStand.{CanAdd, HasBufferRoom, is_of, seen}, declared.owned.OwnedWindow.{OwnedWindow}}
-use Rattle.bd_keys.proofs.Rising.{find_none}
-use Rattle.bd_space.specs.{Delivery.{add_buffer}, declared.space.Buffer.{Buffer}}
-use Rattle.bd_buffers.proofs.{AllWindows.{buffer_added, found_at, older, one_made}, Homes.{homes_noted}, Standing.{found_of}}
+use Rattle.bd_buffers.proofs.Words.{Buffer, CanAdd, CanHold, HasBufferRoom, List, None, OwnedWindow, Some, add_buffer, find_none, is_of, refl, seen, sym, [], ◌++◌, ◌∷◌}
+use Rattle.bd_buffers.proofs.{AllWindows.{buffer_added, found_at, older, one_made}, InSpace.{homes_noted}, Standing.{found_of}}
 use Rattle.bd_buffers.proofs.windows.Windows.add.Goals as goal
 
 pub commit-requires-clause-room : goal.commit-requires-clause-room
@@ -21,8 +17,7 @@ commit-requires-clause-can_take c =
 pub returns-then-is_newest : goal.returns-then-is_newest
 unfolding add_buffer
 returns-then-is_newest c = λ s stands e.
-    let t = c.args.self.now in
-    let w = c.index_mut.result.now in
+    let t = c.args.self.now in let w = c.index_mut.result.now in
     let f : List Buffer → List Buffer = λ xs. xs ++ c.args.buffer ∷ [] in
     let here = rw (c.receiver-receiver.ensures, c.deref.ensures.value) at c.in-Some.ensures in
     let grown = one_made c.self.inside.windows.items c.args.buffer.receiver c.in-Some.at w c.commit.new.self f c.self.invariant here c.index_mut.ensures.value

@@ -1,6 +1,4 @@
-use Rattle.std.proofs.Common.{None, Some, refl, sym, ◌+◌, ◌∙◌, ◌≡◌}
-use Rattle.bd_buffers.specs.Homes.{home_key}
-use Rattle.bd_keys.specs.Look.{look}
+use Rattle.bd_buffers.proofs.Words.{None, Some, home_key, look, refl, sym, ◌+◌, ◌∙◌, ◌≡◌}
 use Rattle.bd_buffers.proofs.AllWindows.{looked_up}
 use Rattle.bd_buffers.proofs.windows.Windows.at_home.Goals as goal
 

@@ -1,4 +1,4 @@
-use Rattle.std.proofs.{Common.{Some, refl, sym, ◌+◌}, lemmas.Bool.{ltb-true}}
+use Rattle.bd_buffers.proofs.Words.{Some, ltb-true, refl, sym, ◌+◌}
 use Rattle.bd_buffers.proofs.AllWindows.{guessed}
 use Rattle.bd_buffers.proofs.windows.Windows.buffer.Goals as goal
 

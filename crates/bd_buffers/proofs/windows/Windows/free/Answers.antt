@@ -1,18 +1,11 @@
-use Rattle.std.proofs.Common.{Some, arith, not, sym, ◌+◌, ◌∙◌, ◌≡◌}
-use Rattle.std.specs.Prelude.{filter}
-use Rattle.bd_buffers.specs.Homes.{home_key}
-use Rattle.bd_keys.proofs.Rising.{filter_none}
-use Rattle.bd_keys.specs.Look.{look}
-use Rattle.bd_space.specs.{Freeing.{is_made_at, without_buffer}, Windows.{buffers_of}, declared.space.Buffer.{Buffer}}
-use Rattle.bd_buffers.proofs.{AllWindows.{one_changes, stay}, Homes.{homes_forgotten, none_home, others_home}, InSpace.{kept_in}, Order.{made_kept}, Owners.{order_one}}
+use Rattle.bd_buffers.proofs.Words.{Buffer, Some, arith, buffers_of, filter, filter_none, home_key, is_made_at, look, not, sym, without_buffer, ◌+◌, ◌∙◌, ◌≡◌}
+use Rattle.bd_buffers.proofs.{AllWindows.{one_changes, order_one, stay}, InSpace.{homes_forgotten, kept_in, made_kept, none_home, others_home}}
 use Rattle.bd_buffers.proofs.windows.Windows.free.Goals as goal
 
 pub returns-in-Some : goal.returns-in-Some
 unfolding without_buffer
 returns-in-Some c = λ s stands.
-    let t = c.args.self.now in
-    let made = c.args.made in
-    let p = c.in-Some.p in
+    let t = c.args.self.now in let made = c.args.made in let p = c.in-Some.p in
     let keep = λ (b : Buffer). not (is_made_at made b) in
     let home : look t.homes (home_key made) ≡ Some p = rw (← c.self.view_is, ← c.home_key.ensures) (sym c.in-Some.ensures.taken) in
     let homes = homes_forgotten t.homes c.remove.new.self s.buffers made stands.homes_are (λ k. rw (← c.self.view_is) (rw c.home_key.ensures at (c.remove.ensures.gone k))) in

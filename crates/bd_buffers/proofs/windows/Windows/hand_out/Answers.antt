@@ -1,9 +1,5 @@
-use Rattle.std.proofs.Common.{Some, arith, sym, ◌+◌, ◌∙◌, ◌≡◌}
-use Rattle.bd_buffers.specs.Homes.{home_key}
-use Rattle.bd_keys.specs.Look.{look}
-use Rattle.bd_space.proofs.Keyed.{changed_none}
-use Rattle.bd_space.specs.{Words.{changed}, Freeing.{is_made_at}, ReadItems.{buffer_taken, hand_out, read_by}, Windows.{buffers_of}, declared.space.Buffer.{Buffer}}
-use Rattle.bd_buffers.proofs.{AllWindows.{handed_by, one_changes}, Homes.{homes_handed, none_home, others_home}, InSpace.{handed_in}, Order.{made_handed}, Owners.{order_one}}
+use Rattle.bd_buffers.proofs.Words.{Buffer, Some, arith, buffer_taken, buffers_of, changed, changed_none, hand_out, home_key, is_made_at, look, read_by, sym, ◌+◌, ◌∙◌, ◌≡◌}
+use Rattle.bd_buffers.proofs.{AllWindows.{handed_by, one_changes, order_one}, InSpace.{handed_in, homes_handed, made_handed, none_home, others_home}}
 use Rattle.bd_buffers.proofs.windows.Windows.hand_out.Goals as goal
 
 pub invariant_of-self : goal.invariant_of-self
@@ -12,9 +8,7 @@ invariant_of-self c = search (arith, order_one)
 pub returns-in-Some-get : goal.returns-in-Some-get
 unfolding read_by
 returns-in-Some-get c = λ s seat ws stands e.
-    let t = c.args.self.now in
-    let made = c.in-Some.made in
-    let p = c.in-Some-get.p in
+    let t = c.args.self.now in let made = c.in-Some.made in let p = c.in-Some-get.p in
     let f = changed (is_made_at made) hand_out in
     let home : look t.homes (home_key made) ≡ Some p = rw (← c.self.view_is, ← c.home_key.ensures) (sym c.in-Some-get.ensures) in
     handed_by _ (s.steps + 1) s.processes s.buffers (buffer_taken s ws) made (sym c.in-Some.is ∙ e)
@@ -25,7 +19,6 @@ returns-in-Some-get c = λ s seat ws stands e.
 pub returns-in_default-get : goal.returns-in_default-get
 unfolding read_by
 returns-in_default-get c = λ s seat ws stands e.
-    let t = c.args.self.now in
-    let made = c.in-Some.made in
+    let t = c.args.self.now in let made = c.in-Some.made in
     let none = none_home t.homes s.buffers made stands.homes_are (rw (← c.self.view_is, ← c.home_key.ensures) (sym c.get.ensures ∙ c.in_default-get.is)) in
     handed_by t (s.steps + 1) s.processes s.buffers (buffer_taken s ws) made (sym c.in-Some.is ∙ e) (rw (changed_none (λ (b : Buffer). b.made) hand_out made s.buffers none) stands)

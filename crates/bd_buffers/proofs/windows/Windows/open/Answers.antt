@@ -1,7 +1,5 @@
-use Rattle.std.proofs.{Common.{false, refl, sym, ◌<◌}, lemmas.List.Quantifiers.{all_pairs_push}}
-use Rattle.bd_buffers.specs.declared.owned.OwnedWindow.{OwnedWindow}
-use Rattle.bd_space.specs.Steps.{with_process}
-use Rattle.bd_buffers.proofs.{AllWindows.{opened}, Owners.{owners_before}}
+use Rattle.bd_buffers.proofs.Words.{OwnedWindow, all_pairs_push, false, refl, sym, with_process, ◌<◌}
+use Rattle.bd_buffers.proofs.AllWindows.{opened, owners_before}
 use Rattle.bd_buffers.proofs.windows.Windows.open.Goals as goal
 
 pub invariant_of-self : goal.invariant_of-self

@@ -1,4 +1,4 @@
-use Rattle.std.proofs.Common.{◌+◌}
+use Rattle.bd_buffers.proofs.Words.{◌+◌}
 use Rattle.bd_buffers.proofs.AllWindows.{told_of}
 use Rattle.bd_buffers.proofs.windows.Windows.owned.Goals as goal
 

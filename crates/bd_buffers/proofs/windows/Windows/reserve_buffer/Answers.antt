@@ -1,8 +1,5 @@
-use Rattle.std.proofs.Common.{Some}
-use Rattle.std.specs.Prelude.{None}
-use Rattle.bd_buffers.specs.{WindowsStand.{HasBufferRoom}, declared.owned.OwnedWindow.{OwnedWindow}}
-use Rattle.bd_keys.proofs.Rising.{find_none}
-use Rattle.bd_buffers.proofs.{AllWindows.{found_at, left_at}, Changes.{on_err, on_ok}}
+use Rattle.bd_buffers.proofs.Words.{HasBufferRoom, None, OwnedWindow, Some, find_none}
+use Rattle.bd_buffers.proofs.{AllWindows.{found_at, left_at}, Made.{on_err, on_ok}}
 use Rattle.bd_buffers.proofs.windows.Windows.reserve_buffer.Goals as goal
 
 pub returns-in-None-clause-room : goal.returns-in-None-clause-room
