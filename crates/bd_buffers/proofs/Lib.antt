@@ -1,17 +1,12 @@
-pub mod Changes
+mod Words
 pub mod Places
 pub mod Units
 pub mod Made
 pub mod Live
 pub mod Kept
-pub mod Listed
-pub mod Shares
 pub mod Standing
 pub mod Noted
 pub mod InSpace
-pub mod Order
-pub mod Homes
-pub mod Owners
 pub mod AllWindows
 pub mod WindowLaws
 pub mod Marks

@@ -1,15 +1,7 @@
 -- What rows have, and what each change leaves of it.
-use Rattle.std.proofs.lemmas.Grind.{common_steps}
-use Rattle.std.proofs.lemmas.{Bool.{le-leb, lt-leb}, List.{append-nil, length_push, length-map, get_or_push}, List.Kept.{AllPairs-filter}, List.Quantifiers.{all_pairs_push}}
-use Rattle.std.proofs.lemmas.List.Elements.{All-head, All-tail, filter-append, filter_passes}
-use Rattle.std.proofs.{lemmas.Option.{slice_get_within, get_or_from_slice_get, slice_get-get_or}, Math.{Seq.{take-suc, drop-cons}, ListN.{get_or-append}}}
-use Rattle.std.proofs.Common.{◌≡◌, ℕ, zero, suc, ◌+◌, ◌-◌, ◌<◌, ◌≤◌, Bool, true, false, cond, List, [], ◌∷◌, ◌++◌, length, get_or, set, take, drop, Option, Some, None, refl, ap, sym, ◌∙◌, subst, arith, All}
-use Rattle.std.specs.{Prelude.{not, find, filter, option_map, unwrap_or, nat_le}, List.{slice_get}, Option.{option_to_list}}
-use Rattle.bd_space.specs.Words.{changed}
-use Rattle.bd_space.proofs.Keyed.{changed_at, length_changed, pairs_changed}
-use Rattle.bd_keys.proofs.Rising.{Rising, AllOthers, newest_all, distinct, find_none, find_at}
-use Rattle.bd_buffers.specs.{declared.record.Record.{Record}, Record.{is_record_at, record_in, hand_over, made_of_record}}
-use Rattle.bd_buffers.specs.Rows.{lives, live, live_places, kept, ended, ends_empty, AreRows, IsLiveRow}
+use Rattle.bd_buffers.proofs.Words.{All, All-head, All-tail, AllOthers, AllPairs-filter, AreRows, Bool, IsLiveRow, List, None, Option, Record, Rising, Some, all_pairs_push, ap, append-nil, arith, changed, changed_at, cond, distinct, drop, drop-cons, drop_all, ended, ends_empty, false, filter, filter-append}
+use Rattle.bd_buffers.proofs.Words.{filter_passes, find, find_at, find_none, get_or, get_or-append, get_or_from_slice_get, get_or_push, hand_over, is_record_at, le-leb, length, length-map, length_changed, length_push, live, live_places, lives, lt-leb, made_of_record, nat_le, newest_all, not, option_map}
+use Rattle.bd_buffers.proofs.Words.{option_to_list, pairs_changed, record_in, refl, set, slice_get, slice_get-get_or, slice_get_cases, subst, suc, sym, true, unwrap_or, zero, ℕ, [], ◌++◌, ◌+◌, ◌-◌, ◌<◌, ◌∙◌, ◌∷◌, ◌≡◌, ◌≤◌}
 use Rattle.bd_buffers.proofs.{InSpace.{filter_changed, filter_kept}, Made.{find_kept}}
 
 abbrev is_empty : Record → Bool
@@ -20,22 +12,13 @@ InOrder rows = Rising made_of_record rows
 
 -- ---- the end
 
--- the last row's buffer lives
-last_full : (rows : List Record) (r : Record) → ends_empty rows ≡ false → slice_get rows (length rows - 1) ≡ Some r → lives r ≡ true
-last_full rows r ends is = grind (arith, false, true)
-
--- the last row is empty
-last_empty : (rows : List Record) (r : Record) → ends_empty rows ≡ true → slice_get rows (length rows - 1) ≡ Some r → lives r ≡ false
-last_empty rows r ends is = grind (arith, false, true)
+-- the last row
+last_row : (rows : List Record) (r : Record) (b : Bool) → ends_empty rows ≡ b → slice_get rows (length rows - 1) ≡ Some r → lives r ≡ not b
+last_row rows r b ends is = grind (arith, false, true)
 
 -- where every row has its buffer, so has the last
 ends_full : (rows : List Record) → All (λ (r : Record). lives r ≡ true) rows → ends_empty rows ≡ false
-ends_full rows all = by (slice_get rows (length rows - 1)) refl
-  where
-    by : (o : Option Record) → slice_get rows (length rows - 1) ≡ o → unwrap_or (option_map is_empty o) false ≡ false
-    by None is = refl
-    by (Some r) is =
-        ap not (subst (λ x. lives x ≡ true) (get_or_from_slice_get rows (length rows - 1) r r is) (all (length rows - 1) r (slice_get_within rows (length rows - 1) r is)))
+ends_full rows all = let last = slice_get_cases rows (length rows - 1) in grind (arith, get_or_from_slice_get)
 
 -- ---- where all were made before
 
@@ -53,33 +36,29 @@ row_has P (x ∷ rows) (suc k) r is t all = row_has P rows k r is t (rest (lives
 
 -- the last row was made before, if all live buffers were
 pub last_below : (rows : List Record) (r : Record) (n : ℕ) → AreRows rows → slice_get rows (length rows - 1) ≡ Some r → All (λ b. b.made < n) (live rows) → r.made < n
-last_below rows r n is last all = row_has (λ (b : Record). b.made < n) rows (length rows - 1) r last (last_full rows r is.ends last) all
+last_below rows r n is last all = row_has (λ (b : Record). b.made < n) rows (length rows - 1) r last (last_row rows r false is.ends last) all
 
 -- where all live buffers were made before, all rows were
 rows_below : (rows : List Record) (n : ℕ) → AreRows rows → All (λ b. b.made < n) (live rows) → All (λ r. r.made < n) rows
-rows_below [] n is all = λ k d h. absurd (omega arith)
-rows_below (x ∷ rows) n is all =
-    let last = slice_get-get_or (x ∷ rows) (length (x ∷ rows) - 1) x (omega arith) in
-    newest_all made_of_record (x ∷ rows) _ n is.in_order last (last_below (x ∷ rows) _ n is last all)
+rows_below rows n is all k d lt =
+    let last = slice_get-get_or rows (length rows - 1) d (omega arith) in newest_all made_of_record rows _ n is.in_order last (last_below rows _ n is last all) k d lt
 
 -- ---- what is found by its place
 
 -- in a live row
 pub found_row : (n : ℕ) (rows : List Record) (i : ℕ) (d : Record) → InOrder rows → IsLiveRow rows n i → record_in (live rows) n ≡ Some (get_or rows i d)
 found_row n rows i d rising is =
-    find_kept made_of_record lives n rows (distinct made_of_record rows rising)
-    ∙ ap (kept lives) (find_at made_of_record n rows i d (distinct made_of_record rows rising) is.within is.made_there)
-    ∙ ap (λ t. cond t (Some (get_or rows i d)) None) (is.lives_there d)
+    let apart = distinct made_of_record rows rising in
+    let there = find_at made_of_record n rows i d apart is.within is.made_there in let left = find_kept made_of_record lives n rows apart in let t = is.lives_there d in grind arith
 
 -- in an empty one, and where there is none
 pub missed_row : (n : ℕ) (rows : List Record) (i : ℕ) (d : Record) → InOrder rows → i < length rows → ((e : Record) → (get_or rows i e).made ≡ n) → lives (get_or rows i d) ≡ false
     → record_in (live rows) n ≡ None
 missed_row n rows i d rising lt at dead =
-    find_kept made_of_record lives n rows (distinct made_of_record rows rising)
-    ∙ ap (kept lives) (find_at made_of_record n rows i d (distinct made_of_record rows rising) lt at) ∙ ap (λ t. cond t (Some (get_or rows i d)) None) dead
+    let apart = distinct made_of_record rows rising in let there = find_at made_of_record n rows i d apart lt at in let left = find_kept made_of_record lives n rows apart in grind arith
 
 pub no_row : (n : ℕ) (rows : List Record) → InOrder rows → AllOthers made_of_record n rows → record_in (live rows) n ≡ None
-no_row n rows rising none = find_kept made_of_record lives n rows (distinct made_of_record rows rising) ∙ ap (kept lives) (find_none made_of_record n rows none)
+no_row n rows rising none = let found = find_none made_of_record n rows none in let left = find_kept made_of_record lives n rows (distinct made_of_record rows rising) in grind arith
 
 -- ---- where a buffer ends
 
@@ -87,7 +66,6 @@ ended_live : (n : ℕ) (rows : List Record) → live (changed (is_record_at n) e
 ended_live n [] = refl
 ended_live n (x ∷ rows) = grind (arith, ended_live n rows)
 
--- what is left where a row becomes empty
 -- there is one
 some_row : (rows : List Record) (i : ℕ) → i < length rows → Record
 some_row rows i lt = grind arith
@@ -104,13 +82,11 @@ end_left n rows new i rising is set_there =
     let e = one_changed ended n rows new i rising is set_there in
     (ap live e ∙ ended_live n rows, subst InOrder (sym e) (pairs_changed (is_record_at n) ended made_of_record (λ x. refl) (λ a b. a < b) rows rising))
 
--- ---- where empty rows are left out
-
 pub packed_live : (rows : List Record) → live (live rows) ≡ live rows
 packed_live rows = filter_kept lives lives (λ r t. t) rows
 
 pub packed_rows : (rows : List Record) → AreRows rows → AreRows (live rows)
-packed_rows rows is = record { in_order = AllPairs-filter (λ (a : Record) (b : Record). a.made < b.made) lives rows is.in_order; ends = ends_full (live rows) (filter_passes lives rows) }
+packed_rows rows is = search (arith, AllPairs-filter, ends_full, filter_passes)
 
 -- ---- where one comes
 
@@ -118,70 +94,53 @@ pub one_there : (rows : List Record) (i : ℕ) (d : Record) → i < length rows 
 one_there rows i d lt t = let some = row_has (λ r. 1 ≤ length (live rows)) rows i (get_or rows i d) (slice_get-get_or rows i d lt) t (λ k e lt. omega (arith, lt)) in omega (arith, some, length-map (live rows) made_of_record)
 
 get_last : (rows : List Record) (r : Record) → slice_get (rows ++ r ∷ []) (length (rows ++ r ∷ []) - 1) ≡ Some r
-get_last rows r =
-    let len = length_push rows r in
-    slice_get-get_or (rows ++ r ∷ []) (length (rows ++ r ∷ []) - 1) r (omega (arith, len)) ∙ ap (λ x. Some x) (get_or_push rows r r (length (rows ++ r ∷ []) - 1) (omega (arith, len)))
+get_last rows r = let len = length_push rows r in let at = get_or_push rows r r (length rows) in grind (arith, slice_get-get_or)
 
 pub more_live : (rows : List Record) (b : Record) (t : Bool) → lives b ≡ t → live (rows ++ b ∷ []) ≡ live rows ++ cond t (b ∷ []) []
-more_live rows b t e = filter-append lives rows (b ∷ []) ∙ ap (λ c. live rows ++ cond c (b ∷ []) []) e
+more_live rows b t e = simp (filter-append lives rows (b ∷ []), e)
 
 pub pushed_rows : (rows : List Record) (b : Record) → AreRows rows → lives b ≡ true → All (λ x. x.made < b.made) (live rows) → AreRows (rows ++ b ∷ [])
-pushed_rows rows b is t newest = record {
-  in_order = all_pairs_push (λ (x : Record) (y : Record). x.made < y.made) rows b is.in_order (rows_below rows b.made is newest);
-  ends = ap (λ o. unwrap_or (option_map is_empty o) false) (get_last rows b) ∙ ap not t;
-}
+pushed_rows rows b is t newest =
+    let order = all_pairs_push (λ (x : Record) (y : Record). x.made < y.made) rows b is.in_order (rows_below rows b.made is newest) in
+    record { in_order = order; ends = ap (λ o. unwrap_or (option_map is_empty o) false) (get_last rows b) ∙ ap not t }
 
 -- ---- where the last goes, which is empty
 
 pub popped : (rows new : List Record) (o : Option Record) → InOrder rows → ends_empty rows ≡ true → rows ≡ new ++ option_to_list o → (live new ≡ live rows) × InOrder new
 popped rows new None rising ends e = grind (arith, append-nil)
 popped rows new (Some r) rising ends e =
-    let none = last_empty rows r ends (ap (λ xs. slice_get xs (length xs - 1)) e ∙ get_last new r) in
-    let whole = subst InOrder e rising in (
-      sym (ap live e ∙ more_live new r false none ∙ append-nil (live new)),
-      λ i j d lt h. (let up = whole i j d lt (omega (arith, length_push new r, h)) in
-          let first = ap made_of_record (get_or-append new (r ∷ []) d i (omega (arith, lt, h))) in
-          let second = ap made_of_record (get_or-append new (r ∷ []) d j h) in
-          omega (arith, up, first, second)),
-    )
+    let none = last_row rows r true ends (ap (λ xs. slice_get xs (length xs - 1)) e ∙ get_last new r) in
+    (sym (ap live e ∙ more_live new r false none ∙ append-nil (live new)), λ i j d lt h. (let up = subst InOrder e rising i j d lt in grind (arith, length_push, get_or-append)))
 
 -- ---- where a buffer is handed out
 
 ends_stay : (p : Record → Bool) (rows : List Record) (k : ℕ) → option_map is_empty (slice_get (changed p hand_over rows) k) ≡ option_map is_empty (slice_get rows k)
 ends_stay p [] k = refl
-ends_stay p (x ∷ rows) zero = elim (p x) as (λ b. option_map is_empty (Some (cond b (hand_over x) x)) ≡ Some (is_empty x)) [ true ↦ refl | false ↦ refl ]
-ends_stay p (x ∷ rows) (suc k) = ends_stay p rows k
+ends_stay p (x ∷ rows) k = grind (arith, ends_stay p rows)
 
 pub handed_rows : (p : Record → Bool) (rows : List Record) → AreRows rows → AreRows (changed p hand_over rows)
-handed_rows p rows is = record {
-  in_order = pairs_changed p hand_over made_of_record (λ x. refl) (λ a b. a < b) rows is.in_order;
-  ends = ap (λ n. unwrap_or (option_map is_empty (slice_get (changed p hand_over rows) (n - 1))) false) (length_changed p hand_over rows)
-      ∙ ap (λ o. unwrap_or o false) (ends_stay p rows (length rows - 1)) ∙ is.ends;
-}
+handed_rows p rows is =
+    let order = pairs_changed p hand_over made_of_record (λ x. refl) (λ a b. a < b) rows is.in_order in
+    record { in_order = order; ends = rw (length_changed p hand_over rows, ends_stay p rows (length rows - 1)) is.ends }
 
 pub handed_live : (n : ℕ) (rows : List Record) → live (changed (is_record_at n) hand_over rows) ≡ changed (is_record_at n) hand_over (live rows)
 handed_live n rows = filter_changed lives (is_record_at n) hand_over (λ x. refl) rows
 
 -- ---- row after row
 
--- the live buffers of one row more
-pub next_live : (rows : List Record) (i : ℕ) (d : Record) (t : Bool) → i < length rows → lives (get_or rows i d) ≡ t → live (take (i + 1) rows) ≡ live (take i rows) ++ cond t (get_or rows i d ∷ []) []
-next_live rows i d t lt e = grind (arith, common_steps, take-suc, more_live)
-
 -- the first from a place on is the first in the rows that aren't before it
 pub from_point : (from : ℕ) (rows : List Record) (i : ℕ) → ((k : ℕ) (d : Record) → k < i → k < length rows → (get_or rows k d).made < from) → ((k : ℕ) (d : Record) → i ≤ k → k < length rows → from ≤ (get_or rows k d).made)
     → find (λ r. nat_le from r.made) (live rows) ≡ find lives (drop i rows)
 from_point from [] zero low high = refl
 from_point from [] (suc i) low high = refl
-from_point from (x ∷ rows) zero low high = by (lives x) refl (from_point from rows zero (λ k d lt h. absurd (omega arith)) (λ k d le h. high (suc k) d (omega arith) (omega arith)))
-  where
-    by : (t : Bool) → lives x ≡ t → find (λ r. nat_le from r.made) (live rows) ≡ find lives rows → find (λ r. nat_le from r.made) (cond t (x ∷ live rows) (live rows)) ≡ cond t (Some x) (find lives rows)
-    by t e rest = grind (arith, true, rest, le-leb, false)
+from_point from (x ∷ rows) zero low high =
+    let rest = from_point from rows zero (λ k d lt h. absurd (omega arith)) (λ k d le h. high (suc k) d (omega arith) (omega arith)) in
+    let here = high zero x (omega arith) (omega arith) in
+    grind (arith, le-leb)
 from_point from (x ∷ rows) (suc i) low high =
-    by (lives x) (from_point from rows i (λ k d lt h. low (suc k) d (omega arith) (omega arith)) (λ k d le h. high (suc k) d (omega arith) (omega arith)))
-  where
-    by : (t : Bool) → find (λ r. nat_le from r.made) (live rows) ≡ find lives (drop i rows) → find (λ r. nat_le from r.made) (cond t (x ∷ live rows) (live rows)) ≡ find lives (drop i rows)
-    by t rest = grind (arith, true, rest, lt-leb, false)
+    let rest = from_point from rows i (λ k d lt h. low (suc k) d (omega arith) (omega arith)) (λ k d le h. high (suc k) d (omega arith) (omega arith)) in
+    let here = low zero x (omega arith) (omega arith) in
+    grind (arith, lt-leb)
 
 -- of an empty row nothing is found
 pub next_row : (rows : List Record) (i : ℕ) (d : Record) (t : Bool) → i < length rows → lives (get_or rows i d) ≡ t → find lives (drop i rows) ≡ cond t (Some (get_or rows i d)) (find lives (drop (i + 1) rows))
@@ -189,7 +148,4 @@ next_row rows i d t lt e = grind (arith, drop-cons)
 
 -- nor past the rows
 pub no_more : (rows : List Record) (i : ℕ) → length rows ≤ i → find lives (drop i rows) ≡ None
-no_more [] zero le = refl
-no_more [] (suc i) le = refl
-no_more (x ∷ rows) zero le = absurd (omega arith)
-no_more (x ∷ rows) (suc i) le = no_more rows i (omega arith)
+no_more rows i le = rw (drop_all i rows le) refl

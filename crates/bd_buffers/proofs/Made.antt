@@ -1,14 +1,45 @@
 -- Where a search by a key that rises ends, and what is found where elements come or go.
-use Rattle.std.proofs.Common.{◌≡◌, ℕ, ◌<◌, ◌≤◌, Bool, true, false, cond, List, [], ◌∷◌, length, get_or, map, suc, refl, ap, sym, ◌∙◌, arith, All, ltb}
-use Rattle.std.specs.Prelude.{◌==◌, not, find, filter, Some, None, Option, option_map, MatchOption, Result, Ok, Err}
-use Rattle.std.specs.{List.Sorted.{IsNonDecreasingBy, IsPartitionedBy, IsPartitionPoint, IsBinarySearchResult, IsSearchInRange}, List.{slice_get}, Ordering.{nat_cmp}}
-use Rattle.std.specs.Result.{result_ok}
-use Rattle.std.proofs.{lemmas.Bool.{eqb-true, ltb-true, ltb-false}, lemmas.List.Sorted.{IsPartitionedBy-ltb}, lemmas.List.{length-map}}
-use Rattle.std.proofs.lemmas.Option.{slice_get-get_or}
-use Rattle.std.proofs.Math.ListN as list
-use Rattle.bd_keys.proofs.Rising.{Rising, Distinct, distinct, find_at, find_none, filter_none, rest_differ, pairs_tail}
+use Rattle.bd_buffers.proofs.Words.{All, All-cons, All-head, All-tail, AllPairs, Bool, Distinct, Err, IsBinarySearchResult, IsNonDecreasingBy, IsPartitionPoint, IsPartitionedBy, IsPartitionedBy-ltb, IsSearchInRange, IsWithout, List, MatchOption, Ok, OnErr, OnOk, Option, Result, Rising, Some, ap, arith, changed}
+use Rattle.bd_buffers.proofs.Words.{cond, distinct, eqb-true, false, filter, filter_none, find, find_at, find_none, get_or, get_or-map, kept, length, length-map, ltb, ltb-false, ltb-true, map, nat_cmp, not, pairs_head, pairs_tail, refl, rest_differ, result_ok, slice_get, slice_get-get_or, suc, sym, true, ℕ, []}
+use Rattle.bd_buffers.proofs.Words.{◌<◌, ◌==◌, ◌∙◌, ◌∷◌, ◌≡◌, ◌≤◌}
 use Rattle.bd_keys.proofs.Rising.{searched as by_halves}
-use Rattle.bd_buffers.specs.Rows.{kept, IsWithout}
+
+-- ---- some elements changed or left out
+
+-- what each element keeps where those that pass are changed
+pub All_changed : {A : Type 0} (p : A → Bool) (f : A → A) (P : A → Type 0) → ((x : A) → P x → P (f x)) → (xs : List A) → All P xs → All P (changed p f xs)
+All_changed p f P k [] all = all
+All_changed p f P k (x ∷ xs) all = grind (arith, All-head, All-cons, All-tail, All_changed p f P k xs (All-tail P x xs all))
+
+-- nothing is left where none passes
+pub none_left : {A : Type 0} (p : A → Bool) (xs : List A) → All (λ x. p x ≡ false) xs → filter p xs ≡ []
+none_left p [] all = refl
+none_left p (x ∷ xs) all = grind (arith, All-head, All-tail, none_left p xs (All-tail (λ y. p y ≡ false) x xs all))
+
+-- ---- answers
+
+module _ {A E : Type 0} (P Q : Type 0) (f : P → Q) where
+  pub on_ok : (r : Result A E) → OnOk r P → OnOk r Q
+  on_ok r p = search arith
+
+  pub on_err : (r : Result A E) → OnErr r P → OnErr r Q
+  on_err r p = search arith
+
+pub refused : {A E : Type 0} (r : Result A E) (P : Type 0) → P → OnErr r P
+refused r P p = search arith
+
+-- ---- pairs
+
+module _ {A : Type 0} (R : A → A → Type 0) where
+  pub pairs_cons : (x : A) (xs : List A) → All (R x) xs → AllPairs R xs → AllPairs R (x ∷ xs)
+  pairs_cons x xs all pairs h2 h3 d lt h = search arith
+
+  pub pairs_changed : (p : A → Bool) (f : A → A) → ((x y : A) → R x y → R (f x) y) → ((x y : A) → R x y → R x (f y)) → (xs : List A) → AllPairs R xs → AllPairs R (changed p f xs)
+  pairs_changed p f left right [] pairs = pairs
+  pairs_changed p f left right (x ∷ xs) pairs =
+      let rest = pairs_changed p f left right xs (pairs_tail R x xs pairs) in
+      let all = All_changed p f (R x) (right x) xs (pairs_head R x xs pairs) in
+      elim (p x) as (λ b. AllPairs R (cond b (f x) x ∷ changed p f xs)) [ true ↦ pairs_cons (f x) (changed p f xs) (λ k d h. left x _ (all k d h)) rest | false ↦ pairs_cons x (changed p f xs) all rest ]
 
 module _ {A : Type 0} (key : A → ℕ) where
   -- where a search by the key ends
@@ -27,49 +58,35 @@ module _ {A : Type 0} (key : A → ℕ) where
 pub kept_some : {A : Type 0} (keep : A → Bool) (o : Option A) (x : A) → kept keep o ≡ Some x → (o ≡ Some x) × (keep x ≡ true)
 kept_some keep o x e = grind arith
 
-module _ {A : Type 0} (key : A → ℕ) (keep : A → Bool) (m : ℕ) where
-  kept_first : (x : A) (xs : List A) (a b : Bool) → (key x == m) ≡ a → keep x ≡ b → Distinct key (x ∷ xs) → find (λ y. key y == m) (filter keep xs) ≡ kept keep (find (λ y. key y == m) xs)
-      → find (λ y. key y == m) (cond b (x ∷ filter keep xs) (filter keep xs)) ≡ kept keep (cond a (Some x) (find (λ y. key y == m) xs))
-  kept_first x xs true true e f apart rest = ap (λ t. cond t (Some x) (find (λ y. key y == m) (filter keep xs))) e ∙ sym (ap (λ t. cond t (Some x) None) f)
-  kept_first x xs true false e f apart rest =
-      rest ∙ ap (kept keep) (find_none key m xs (rest_differ key m x xs apart (eqb-true (key x) m e))) ∙ sym (ap (λ t. cond t (Some x) None) f)
-  kept_first x xs false true e f apart rest = ap (λ t. cond t (Some x) (find (λ y. key y == m) (filter keep xs))) e ∙ rest
-  kept_first x xs false false e f apart rest = rest
-
-  pub find_kept : (xs : List A) → Distinct key xs → find (λ y. key y == m) (filter keep xs) ≡ kept keep (find (λ y. key y == m) xs)
-  find_kept [] apart = refl
-  find_kept (x ∷ xs) apart = grind (arith, kept_first, pairs_tail, find_kept xs (pairs_tail (λ a b. key a ≡ key b → ⊥) x xs apart))
-
-pub none_of : {A B : Type 0} (f : A → B) (o : Option A) → None ≡ option_map f o → None ≡ o
-none_of f o e = grind arith
+pub find_kept : {A : Type 0} (key : A → ℕ) (keep : A → Bool) (m : ℕ) (xs : List A) → Distinct key xs → find (λ y. key y == m) (filter keep xs) ≡ kept keep (find (λ y. key y == m) xs)
+find_kept key keep m [] apart = refl
+find_kept key keep m (x ∷ xs) apart =
+    let rest = find_kept key keep m xs (pairs_tail (λ a b. key a ≡ key b → ⊥) x xs apart) in let none = rest_differ key m x xs apart in grind (arith, eqb-true, find_none)
 
 -- ---- where one stands, and where places stay
+
+-- where keys rise, the same keys do
+pub same_keys : {A B : Type 0} (key : A → ℕ) (other : B → ℕ) (xs : List A) (ys : List B) → map other ys ≡ map key xs → Rising key xs → Rising other ys
+same_keys key other [] ys e rising i j d lt h = absurd (omega (arith, length-map ys other, ap length e))
+same_keys key other (x ∷ xs) ys e rising i j d lt h =
+    let len : length ys ≡ length (x ∷ xs) = sym (length-map ys other) ∙ ap length e ∙ length-map (x ∷ xs) key in
+    let at : (k : ℕ) → k < length ys → other (get_or ys k d) ≡ key (get_or (x ∷ xs) k x) =
+    λ k lt. sym (get_or-map other ys k d 0 lt) ∙ ap (λ ns. get_or ns k 0) e ∙ get_or-map key (x ∷ xs) k x 0 (omega (arith, len, lt)) in
+    omega (arith, at i (omega (arith, lt, h)), at j h, rising i j x lt (omega (arith, len, h)))
 
 module _ {A : Type 0} (key : A → ℕ) where
   pub look_found : (m : ℕ) (xs : List A) (i : ℕ) → Rising key xs → i < length xs → ((d : A) → key (get_or xs i d) ≡ m) → slice_get xs i ≡ find (λ x. key x == m) xs
   look_found m [] i rising lt at = absurd (omega arith)
   look_found m (x ∷ xs) i rising lt at = slice_get-get_or (x ∷ xs) i x lt ∙ sym (find_at key m (x ∷ xs) i x (distinct key (x ∷ xs) rising) lt at)
 
-  pub same_keys : (xs ys : List A) → map key ys ≡ map key xs → Rising key xs → Rising key ys
-  same_keys xs ys e rising i j d lt h =
-      let len : length ys ≡ length xs = sym (length-map ys key) ∙ ap length e ∙ length-map xs key in
-      let first = sym (list.get_or-map key ys i d) ∙ ap (λ ns. get_or ns i (key d)) e ∙ list.get_or-map key xs i d in
-      let second = sym (list.get_or-map key ys j d) ∙ ap (λ ns. get_or ns j (key d)) e ∙ list.get_or-map key xs j d in
-      let up = rising i j d lt (omega (arith, len, h)) in
-      omega (arith, first, second, up)
-
   -- where the one with a key goes, it is missing
   pub gone_at : (m : ℕ) (xs : List A) (x : A) → Rising key xs → find (λ y. key y == m) xs ≡ Some x → IsWithout x xs (filter (λ y. not (key y == m)) xs)
   gone_at m [] x rising e = cc
   gone_at m (y ∷ xs) x rising e = by (key y == m) refl e (gone_at m xs x (pairs_tail (λ a b. key a < key b) y xs rising))
     where
-      left : List A
-      left = filter (λ z. not (key z == m)) xs
-
-      by : (t : Bool) → (key y == m) ≡ t → cond t (Some y) (find (λ z. key z == m) xs) ≡ Some x → (find (λ z. key z == m) xs ≡ Some x → IsWithout x xs left) → IsWithout x (y ∷ xs) (cond (not t) (y ∷ left) left)
+      by : (t : Bool) → (key y == m) ≡ t → cond t (Some y) (find (λ z. key z == m) xs) ≡ Some x → (find (λ z. key z == m) xs ≡ Some x → IsWithout x xs (filter (λ z. not (key z == m)) xs))
+          → IsWithout x (y ∷ xs) (cond (not t) (y ∷ filter (λ z. not (key z == m)) xs) (filter (λ z. not (key z == m)) xs))
       by true e f rest =
-          let same : y ≡ x = cc in
-          record { index = 0; within = omega arith; at = λ d. sym same; left = filter_none key m xs (rest_differ key m y xs (distinct key (y ∷ xs) rising) (eqb-true (key y) m e)) }
-      by false e f rest =
-          let gone = rest f in
-          record { index = suc gone.index; within = (omega arith); at = gone.at; left = ap (λ ys. y ∷ ys) gone.left }
+          let none = filter_none key m xs (rest_differ key m y xs (distinct key (y ∷ xs) rising) (eqb-true (key y) m e)) in
+          record { index = 0; within = omega arith; at = λ d. cc; left = none }
+      by false e f rest = let gone = rest f in record { index = suc gone.index; within = omega arith; at = gone.at; left = ap (λ ys. y ∷ ys) gone.left }

@@ -1,11 +1,6 @@
 -- Windows stay where a process asks for reports of flooding, or no longer.
-use Rattle.std.proofs.Common.{arith, ◌≡◌, ℕ, ◌+◌, ◌<◌, Bool, true, List, [], ◌∷◌, map, refl, sym, ◌∙◌}
-use Rattle.std.specs.Prelude.{◌==◌}
-use Rattle.std.proofs.lemmas.List.Elements.{All-weaker}
-use Rattle.bd_space.specs.{declared.space.Process.{Process}, declared.space.Buffer.{Buffer}, Space.{Space}, Words.{changed}, Seats.{lives_in}}
-use Rattle.bd_space.specs.Spam.{detecting, with_spam_detection}
-use Rattle.bd_buffers.specs.{declared.windows.Windows.{Windows}, WindowsStand.{window_of, AreMade, WindowsOf, StandsIn}}
-use Rattle.bd_buffers.proofs.Changes.{All_changed, pairs_changed}
+use Rattle.bd_buffers.proofs.Words.{All-weaker, AreMade, Bool, Buffer, List, Process, Space, StandsIn, Windows, WindowsOf, arith, changed, detecting, lives_in, map, refl, window_of, with_spam_detection, ℕ, [], ◌+◌, ◌==◌, ◌∷◌, ◌≡◌}
+use Rattle.bd_buffers.proofs.Made.{All_changed, pairs_changed}
 
 module _ (m : Process → Bool) (on : Bool) where
   windows_marked : (bs : List Buffer) (ps : List Process) → map (window_of bs) (changed m (detecting on) ps) ≡ map (window_of bs) ps
@@ -17,14 +12,7 @@ module _ (m : Process → Bool) (on : Bool) where
   lives_marked (q ∷ ps) r = grind (arith, lives_marked ps r)
 
   made_marked : (bound : ℕ) (ps : List Process) (bs : List Buffer) → AreMade bound ps bs → AreMade bound (changed m (detecting on) ps) bs
-  made_marked bound ps bs is = record {
-    processes_in_order = pairs_changed (λ a b. a.made < b.made) m (detecting on) (λ x y lt. lt) (λ x y lt. lt) ps is.processes_in_order;
-    processes_before = All_changed m (detecting on) (λ q. q.made < bound) (λ x lt. lt) ps is.processes_before;
-    buffers_in_order = is.buffers_in_order;
-    buffers_before = is.buffers_before;
-    received = All-weaker (λ (b : Buffer). lives_in ps b.receiver ≡ true) (λ b. lives_in (changed m (detecting on) ps) b.receiver ≡ true)
-        (λ b lives. lives_marked ps b.receiver ∙ lives) bs is.received;
-  }
+  made_marked bound ps bs is = search (arith, pairs_changed, All_changed, All-weaker, lives_marked)
 
   -- for any such change of the processes
   pub marked : (t : Windows) (bound : ℕ) (ps : List Process) (bs : List Buffer) → WindowsOf t bound ps bs → WindowsOf t bound (changed m (detecting on) ps) bs

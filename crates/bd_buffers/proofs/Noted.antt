@@ -1,40 +1,17 @@
 -- What a window keeps, through each change.
-use Rattle.std.proofs.Common.{◌≡◌, ℕ, ◌+◌, ◌/◌, ◌<◌, ◌≤◌, Bool, false, List, [], ◌∷◌, ◌++◌, length, get_or, refl, ap, sym, ◌∙◌, subst, Ok, arith, inl, inr, ◌⊎◌, All}
-use Rattle.std.specs.{List.{between}, Prelude.{slice_index, Some, filter, not, option_map}}
-use Rattle.std.proofs.{lemmas.List.{length_push, get_or_push}, lemmas.List.Elements.{All-map, All-push, All-filter}}
-use Rattle.bd_keys.proofs.Lists.{All_remove}
-use Rattle.bd_ground.specs.Tiles.{Tiles, Begins, without, with_span}
-use Rattle.bd_space.specs.{declared.space.Buffer.{Buffer}, Words.{changed}, Windows.{needed, start_for}, Freeing.{is_made_at}, Spam.{one_way_from}}
-use Rattle.bd_space.specs.ReadItems.{hand_out}
-use Rattle.bd_buffers.specs.{declared.record.Record.{Record}, declared.ground.Ground.{Ground}}
-use Rattle.bd_buffers.specs.Record.{standing, all_standing, bare, IsInMemory, is_record_at, record_in, hand_over}
-use Rattle.bd_buffers.specs.{Buffer.{IsApart, IsPlaced, one_way_share, share_from}, Rows.{IsWithout}, Sums.{AreNoted, AreSums}}
-use Rattle.bd_buffers.specs.Window.{IsWindow, AreStarts, Notes, Keeps, one_way_size, is_free_unit}
-use Rattle.bd_buffers.proofs.{Changes.{All_changed}, Made.{gone_at}, Places.{IsGiven, given_says}}
-use Rattle.bd_buffers.proofs.{Kept.{window_push, window_handed, window_removed, is_one_way, total_push, total_handed, total_removed}, Listed.{starts_noted}}
-use Rattle.bd_buffers.proofs.Shares.{sums_pushed, sums_handed, sums_without}
-use Rattle.bd_buffers.proofs.Standing.{all_of, all_stay, in_longer, same_standing, pushed_standing, handed_standing, found_standing, kept_standing}
-use Rattle.bd_buffers.proofs.Units.{tiles_more, tiles_handed, tiles_less, taken_units, begins_there}
-
--- what all have the last has
-all_last : {A : Type 0} (P : A → Type 0) (xs : List A) (x : A) → All P (xs ++ x ∷ []) → P x
-all_last P xs x all = rw (get_or_push xs x x (length xs) refl) at (all (length xs) x (omega (arith, length_push xs x)))
+use Rattle.bd_buffers.proofs.Words.{All, All-filter, All-map, All-push, All_remove, AreNoted, Begins, Bool, Buffer, Ground, IsApart, IsInMemory, IsWithout, Keeps, List, Notes, Ok, Record, Some, Tiles, all_standing, ap, arith, bare, between, changed, false, filter, get_or, get_or_push, hand_out, hand_over, inl}
+use Rattle.bd_buffers.proofs.Words.{inr, is_free_unit, is_made_at, is_record_at, length, length_push, needed, not, one_way_from, one_way_share, option_map, record_in, refl, share_from, slice_index, standing, start_for, subst, sym, with_span, without, ℕ, [], ◌++◌, ◌+◌, ◌/◌, ◌<◌, ◌∙◌, ◌∷◌, ◌≡◌, ◌≤◌, ◌⊎◌}
+use Rattle.bd_buffers.proofs.{Kept.{is_one_way, starts_noted, sums_handed, sums_pushed, sums_without, total_handed, total_push, total_removed, window_handed, window_push, window_removed}, Made.{All_changed, gone_at}, Places.{IsGiven, given_says}}
+use Rattle.bd_buffers.proofs.{Standing.{all_of, all_stay, found_standing, handed_standing, in_longer, kept_standing, pushed_standing, same_standing}, Units.{begins_there, taken_units, tiles_handed, tiles_less, tiles_more}}
 
 -- ---- a buffer is handed out
 
 notes_handed : (p : Buffer → Bool) (bs : List Buffer) (g : Ground) → Notes bs g → Notes (changed p hand_out bs) g
-notes_handed p bs g is = record {
-  window = window_handed g.size p bs is.window;
-  whole = is.whole;
-  tiles = tiles_handed p bs g.spans is.tiles;
-  starts = All_changed p hand_out (λ b. slice_index g.starts.items (b.start / 8) ≡ b.made) (λ b h. h) bs is.starts;
-  total = is.total ∙ sym (total_handed is_one_way (λ b. refl) p bs);
-  sums = sums_handed p bs g.senders is.sums;
-}
+notes_handed p bs g is = let same = total_handed is_one_way (λ b. refl) p bs in search (arith, window_handed, tiles_handed, All_changed, sums_handed)
 
 pub keeps_handed : (n : ℕ) (rs : List Record) (g : Ground) → Keeps rs g → Keeps (changed (is_record_at n) hand_over rs) g
 keeps_handed n rs g is = record {
-  notes = subst (λ bs. Notes bs g) (sym (handed_standing g.memory n rs)) (notes_handed (is_made_at n) (all_standing g.memory rs) g is.notes);
+  notes = rw (handed_standing g.memory n rs) (notes_handed (is_made_at n) (all_standing g.memory rs) g is.notes);
   there = All_changed (is_record_at n) hand_over (IsInMemory g.memory) (λ r h. record { inside = h.inside; parts = h.parts }) rs is.there;
 }
 
@@ -44,15 +21,14 @@ notes_without : (b : Buffer) (bs new : List Buffer) (g left : Ground) → Notes 
     → ((free : ℕ → Bool) → Tiles free g.spans → ((u : ℕ) → b.start / 8 ≤ u → u < b.start / 8 + b.size / 8 → free u ≡ false) → Tiles (with_span (b.start / 8) (b.size / 8) free) left.spans)
     → left.starts ≡ g.starts → left.one_way + one_way_share b ≡ g.one_way → ((f : ℕ → ℕ) → AreNoted g.senders (λ m. f m + share_from m b) → AreNoted left.senders f) → Notes new left
 notes_without b bs new g left is gone size units spans starts share senders =
-    let less = total_removed is_one_way bs gone.index b gone.within in
-    let own = ap one_way_share (gone.at b) in
-    let rest = ap one_way_size gone.left in
+    let less = total_removed is_one_way bs gone.index b gone.within in let own = gone.at b in
+    let rest = gone.left in
     record {
-      window = subst (λ n. IsWindow n new) (sym size) (subst (IsWindow g.size) (sym gone.left) (window_removed g.size gone.index bs b is.window gone.within));
+      window = rw (size, gone.left) (window_removed g.size gone.index bs b is.window gone.within);
       whole = omega (arith, size, units);
       tiles = tiles_less g.size b bs new left.spans is.window gone (spans (is_free_unit bs) is.tiles (λ u from to. taken_units g.size u b bs new is.window gone from to));
-      starts = subst (λ v. AreStarts new v.items) (sym starts) (subst (λ xs. AreStarts xs g.starts.items) (sym gone.left) (All_remove (λ b. slice_index g.starts.items (b.start / 8) ≡ b.made) bs gone.index gone.within is.starts));
-      total = omega (arith, less, own, rest, share);
+      starts = rw (starts, gone.left) (All_remove (λ b. slice_index g.starts.items (b.start / 8) ≡ b.made) bs gone.index gone.within is.starts);
+      total = grind arith;
       sums = senders (one_way_from new) (sums_without b bs new g.senders gone is.sums);
     }
 
@@ -67,13 +43,8 @@ pub keeps_without : (n : ℕ) (r : Record) (rs : List Record) (g left : Ground) 
     → left.starts ≡ g.starts → left.one_way + one_way_share (bare r) ≡ g.one_way → ((f : ℕ → ℕ) → AreNoted g.senders (λ m. f m + share_from m (bare r)) → AreNoted left.senders f)
     → Keeps (filter (λ x. not (is_record_at n x)) rs) left
 keeps_without n r rs g left is found memory size units spans starts share senders =
-    let m = g.memory in
-    let new = filter (λ x. not (is_record_at n x)) rs in
-    let noted = notes_without (standing m r) (all_standing m rs) (filter (λ b. not (is_made_at n b)) (all_standing m rs)) g left is.notes (gone_of n r rs g is found) size units spans starts share senders in
-    record {
-      notes = subst (λ k. Notes (all_standing k new) left) (sym memory) (subst (λ bs. Notes bs left) (sym (kept_standing m n rs)) noted);
-      there = subst (λ k. All (IsInMemory k) new) (sym memory) (All-filter (λ x. not (is_record_at n x)) (IsInMemory m) rs is.there);
-    }
+    let noted = notes_without _ (all_standing g.memory rs) _ g left is.notes (gone_of n r rs g is found) size units spans starts share senders in
+    record { notes = subst (λ k. Notes (all_standing k (filter (λ x. not (is_record_at n x)) rs)) left) (sym memory) (rw (kept_standing g.memory n rs) noted); there = rw memory (All-filter (λ x. not (is_record_at n x)) (IsInMemory g.memory) rs is.there) }
 
 -- ---- memory grows, and room to note what is free
 
@@ -82,43 +53,34 @@ pub keeps_memory : (rs : List Record) (g left : Ground) → Keeps rs g → left.
     → ((i j : ℕ) → j ≤ length g.memory → between i j left.memory ≡ between i j g.memory) → length g.memory ≤ length left.memory
     → left.spans.size ≡ g.spans.size → ((free : ℕ → Bool) → Tiles free g.spans → Tiles free left.spans) → Keeps rs left
 keeps_memory rs g left is size one_way senders starts kept longer units tiles =
-    let bs = all_standing g.memory rs in
-    let old = is.notes in
-    let notes : Notes bs left = record {
-      window = subst (λ n. IsWindow n bs) (sym size) old.window;
-      whole = omega (arith, size, units);
-      tiles = tiles (is_free_unit bs) old.tiles;
-      starts = λ k d lt. starts ((get_or bs k d).start / 8) ∙ old.starts k d lt;
-      total = omega (arith, one_way);
-      sums = subst (AreSums bs) (sym senders) old.sums;
-    } in
+    let bs = all_standing g.memory rs in let whole = is.notes.whole in let total = is.notes.total in
     record {
-      notes = subst (λ xs. Notes xs left) (sym (all_stay g.memory left.memory kept rs is.there)) notes;
+      notes = rw (all_stay g.memory left.memory kept rs is.there) (record {
+        window = rw size is.notes.window;
+        whole = omega arith;
+        tiles = tiles (is_free_unit bs) is.notes.tiles;
+        starts = λ k d lt. starts ((get_or bs k d).start / 8) ∙ is.notes.starts k d lt;
+        total = omega arith;
+        sums = rw senders is.notes.sums;
+      });
       there = in_longer g.memory left.memory rs longer is.there;
     }
 
 -- ---- a buffer comes
-
-abbrev pub AreBeside : List ℕ → List ℕ → Record → Type 0
-AreBeside m n r = (x : Record) → IsInMemory m x → (x.start + x.size ≤ r.start) ⊎ (r.start + r.size ≤ x.start) → standing n x ≡ standing m x
 
 -- a record that lays a new buffer out beside those that are there
 pub record IsNew (r : Record) (rs : List Record) (g : Ground) (m : List ℕ) : Type 0 where
   pub newest : All (λ x. x.made < r.made) rs
   pub sized : r.size ≡ needed (length (standing m r).bytes) (length (standing m r).offsets)
   pub place : start_for g.size (all_standing g.memory rs) r.one_way r.size ≡ Ok r.start
-  pub others : AreBeside g.memory m r
+  pub others : (x : Record) → IsInMemory g.memory x → (x.start + x.size ≤ r.start) ⊎ (r.start + r.size ≤ x.start) → standing m x ≡ standing g.memory x
 
 -- where it stands for a buffer that may come
 pub is_new : (b : Buffer) (r : Record) (rs : List Record) (g : Ground) (m : List ℕ) → standing m r ≡ b → All (λ x. x.made < b.made) (all_standing g.memory rs) → b.size ≡ needed (length b.bytes) (length b.offsets)
     → start_for g.size (all_standing g.memory rs) b.one_way b.size ≡ Ok b.start
     → ((x : Record) → IsInMemory g.memory x → (x.start + x.size ≤ b.start) ⊎ (b.start + b.size ≤ x.start) → standing m x ≡ standing g.memory x) → IsNew r rs g m
-is_new b r rs g m e newest sized place others = record {
-  newest = all_of (standing g.memory) (λ x. x.made < r.made) rs (subst (λ (x : Buffer). All (λ (y : Buffer). y.made < x.made) (all_standing g.memory rs)) (sym e) newest);
-  sized = subst (λ (x : Buffer). x.size ≡ needed (length x.bytes) (length x.offsets)) (sym e) sized;
-  place = subst (λ (x : Buffer). start_for g.size (all_standing g.memory rs) x.one_way x.size ≡ Ok x.start) (sym e) place;
-  others = λ x is side. others x is (subst (λ (y : Buffer). (x.start + x.size ≤ y.start) ⊎ (y.start + y.size ≤ x.start)) e side);
-}
+is_new b r rs g m e newest sized place others =
+    record { newest = all_of (standing g.memory) (λ x. x.made < r.made) rs (rw (← e) at newest); sized = rw (← e) at sized; place = rw (← e) at place; others = rw (← e) at others }
 
 module _ (r : Record) (rs : List Record) (g left : Ground) (is : Keeps rs g) (comes : IsNew r rs g left.memory) where
   abbrev old : List Buffer
@@ -148,21 +110,18 @@ module _ (r : Record) (rs : List Record) (g left : Ground) (is : Keeps rs g) (co
       → slice_index left.starts.items (r.start / 8) ≡ r.made → ((j : ℕ) → (j ≡ r.start / 8 → ⊥) → slice_index left.starts.items j ≡ slice_index g.starts.items j)
       → left.one_way ≡ g.one_way + one_way_share (bare r) → AreNoted left.senders (λ m. one_way_from old m + share_from m (bare r)) → Keeps (rs ++ r ∷ []) left
   keeps_pushed inside len size units tiles at others_at share senders =
-      let notes = is.notes in
-      let sized = comes.sized in
-      let pushed = total_push is_one_way old new in
-      let window : IsWindow g.size (old ++ new ∷ []) = window_push g.size old new notes.window (All-map (λ b. b.made < r.made) (standing g.memory) rs comes.newest) sized comes.place in
-      let placed = all_last (IsPlaced g.size) old new window.placed in
-      let noted : Notes (old ++ new ∷ []) left = record {
-        window = subst (λ n. IsWindow n (old ++ new ∷ [])) (sym size) window;
-        whole = omega (arith, size, units);
-        tiles = tiles_more g.size old new left.spans placed tiles;
-        starts = starts_noted g.size old new g.starts.items left.starts.items notes.window notes.starts given.least.room.aligned (omega (arith, sized)) given.least.room.free at others_at;
-        total = omega (arith, pushed, share);
-        sums = sums_pushed old new left.senders senders;
-      } in
-      let longer : length g.memory ≤ length left.memory = omega (arith, len) in
+      let sized = comes.sized in let pushed = total_push is_one_way old new in
+      let window = window_push g.size old new is.notes.window (All-map (λ b. b.made < r.made) (standing g.memory) rs comes.newest) sized comes.place in
+      let placed = rw (get_or_push old new new (length old) refl) at (window.placed (length old) new (omega (arith, length_push old new))) in
+      let whole = is.notes.whole in let total = is.notes.total in
       record {
-        notes = subst (λ xs. Notes xs left) (sym with_new) noted;
-        there = All-push (IsInMemory left.memory) rs r (in_longer g.memory left.memory rs longer is.there) inside;
+        notes = rw with_new (record {
+          window = rw size window;
+          whole = omega arith;
+          tiles = tiles_more g.size old new left.spans placed tiles;
+          starts = starts_noted g.size old new g.starts.items left.starts.items is.notes.window is.notes.starts given.least.room.aligned (omega arith) given.least.room.free at others_at;
+          total = omega arith;
+          sums = sums_pushed old new left.senders senders;
+        });
+        there = All-push (IsInMemory left.memory) rs r (in_longer g.memory left.memory rs (omega arith) is.there) inside;
       }

@@ -1,49 +1,19 @@
 -- The least place that fits.
-use Rattle.std.proofs.Common.{subst, ◌≡◌, ℕ, zero, suc, ◌+◌, ◌*◌, ◌/◌, ◌%◌, ◌<◌, ◌≤◌, Bool, true, false, List, refl, ap, sym, ◌∙◌, arith, inl, inr, rules, tests}
-use Rattle.std.specs.Prelude.{Option, Some, None, Result, Ok, Err, option_map, ◌&&◌, IsTrue, IfOk, IfErr}
-use Rattle.std.proofs.{lemmas.List.Sums.{AllPass-from_list_all, list_all-from_AllPass}, lemmas.List.Elements.{All-weaker}, lemmas.Bool.{cases_lt}}
-use Rattle.bd_uapi.specs.{declared.fault.Cause.{Cause}, declared.fault.Cause.TheVariants.{NoRoom, OverBudget}}
-use Rattle.bd_space.specs.{declared.space.Buffer.{Buffer}, Words.{least, when, ok_or, unless, and_then}}
-use Rattle.bd_space.specs.Windows.{is_apart, fits_in, start_in, over_budget_in, start_for, needed}
-use Rattle.bd_buffers.specs.{Buffer.{IsApart}, declared.window.Window.{Window}, Stands.{CanHold}, Window.{IsFree, IsLeastFree, IsInBudget, Refuses, one_way_size}}
+use Rattle.bd_buffers.proofs.Words.{All-weaker, AllPass-from_list_all, Bool, Buffer, CanHold, Cause, Err, IfErr, IfOk, IsFree, IsInBudget, IsLeastFree, IsTrue, IsWindow, List, NoRoom, None, Ok, Option, OverBudget, Refuses, Result, Some, Stands, Window, and_then, arith, false, fits_in, least}
+use Rattle.bd_buffers.proofs.Words.{list_all-from_AllPass, needed, ok_or, one_way_size, option_map, over_budget_in, refl, start_for, start_in, suc, sym, true, unless, when, zero, ℕ, ◌%◌, ◌&&◌, ◌*◌, ◌+◌, ◌/◌, ◌<◌, ◌≡◌, ◌≤◌}
 
 -- ---- the least number that passes
 
--- what the test at k makes of the search from k
-abbrev step_to : (ℕ → Bool) → ℕ → ℕ → Bool → Option ℕ
-step_to p n k true = Some k
-step_to p n k false = least n (k + 1) p
-
 -- what the least number is
-pub record IsLeast (p : ℕ → Bool) (n k m : ℕ) : Type 0 where
-  pub low : k ≤ m
-  pub high : m < k + n
-  pub passes : p m ≡ true
-  pub below : (j : ℕ) → k ≤ j → j < m → p j ≡ false
-
-first_says : (p : ℕ → Bool) (n k m : ℕ) (b : Bool) → p k ≡ b → (least n (k + 1) p ≡ Some m → IsLeast p n (k + 1) m)
-    → step_to p n k b ≡ Some m → IsLeast p (suc n) k m
-first_says p n k m b t rest f = search arith
-
-pub least_says : (p : ℕ → Bool) (n k m : ℕ) → least n k p ≡ Some m → IsLeast p n k m
+pub least_says : (p : ℕ → Bool) (n k m : ℕ) → least n k p ≡ Some m → (k ≤ m) × (m < k + n) × (p m ≡ true) × ((j : ℕ) → k ≤ j → j < m → p j ≡ false)
 least_says p zero k m e = cc
-least_says p (suc n) k m e = first_says p n k m (p k) refl (least_says p n (k + 1) m) e
-
-first_misses : (p : ℕ → Bool) (n k : ℕ) (b : Bool) → p k ≡ b → (least n (k + 1) p ≡ None → (j : ℕ) → k + 1 ≤ j → j < k + 1 + n → p j ≡ false)
-    → step_to p n k b ≡ None → (j : ℕ) → k ≤ j → j < k + suc n → p j ≡ false
-first_misses p n k b t rest f j low high = search arith
+least_says p (suc n) k m e = let rest = least_says p n (k + 1) m in grind (arith, true, false)
 
 pub least_misses : (p : ℕ → Bool) (n k : ℕ) → least n k p ≡ None → (j : ℕ) → k ≤ j → j < k + n → p j ≡ false
 least_misses p zero k e j low high = absurd (omega arith)
-least_misses p (suc n) k e j low high = first_misses p n k (p k) refl (least_misses p n (k + 1)) e j low high
+least_misses p (suc n) k e j low high = let rest = least_misses p n (k + 1) in grind (arith, true, false)
 
 -- ---- room
-
-apart_is : (p n : ℕ) (b : Buffer) → is_apart p n b ≡ true → IsApart p n b
-apart_is p n b t = search (rules, tests)
-
-is_apart_from : (p n : ℕ) (b : Buffer) → IsApart p n b → is_apart p n b ≡ true
-is_apart_from p n b apart = search (rules, tests)
 
 pub fits_free : (size : ℕ) (buffers : List Buffer) (n p : ℕ) → p % 8 ≡ 0 → fits_in size buffers n p ≡ true → IsFree size buffers n p
 fits_free size buffers n p aligned fits = search (arith, AllPass-from_list_all, All-weaker)
@@ -60,21 +30,11 @@ some_place : (size : ℕ) (buffers : List Buffer) (n p : ℕ) (o : Option ℕ) �
     → option_map (λ j. 8 * j) o ≡ Some p → IsLeastFree size buffers n p
 some_place size buffers n p None e f = cc
 some_place size buffers n p (Some k) e f =
-    let fits = λ (j : ℕ). fits_in size buffers n (8 * j) in
-    let is = least_says fits (size / 8) 0 k e in
+    let is = least_says (λ j. fits_in size buffers n (8 * j)) (size / 8) 0 k e in
     let at : 8 * k ≡ p = cc in
-    let P : ℕ → Type 0 = λ q. IsLeastFree size buffers n q in
-    subst P at (record {
-      room = fits_free size buffers n (8 * k) (omega arith) is.passes;
-      least = λ q room. elim (cases_lt q (8 * k)) [
-        | inl lt ↦ (
-            let whole = eight_times q room.aligned in
-            let Q : ℕ → Type 0 = λ r. IsFree size buffers n r in
-            let missed : fits (q / 8) ≡ false = is.below (q / 8) (omega arith) (omega arith) in
-            let met : fits (q / 8) ≡ true = free_fits size buffers n (8 * (q / 8)) (subst Q whole room) in
-            cc)
-        | inr le ↦ le
-      ];
+    rw (← at) (record {
+      room = fits_free size buffers n (8 * k) (omega arith) is.2;
+      least = λ q room. (let missed = is.3 (q / 8) in let met = free_fits size buffers n (8 * (q / 8)) (rw (← eight_times q room.aligned) room) in grind arith);
     })
 
 -- the place has the least room
@@ -86,13 +46,9 @@ no_place : (size : ℕ) (buffers : List Buffer) (n p : ℕ) (o : Option ℕ) →
     → option_map (λ j. 8 * j) o ≡ None → IsFree size buffers n p → ⊥
 no_place size buffers n p (Some k) filled e f room = cc
 no_place size buffers n p None filled e f room =
-    let fits = λ (j : ℕ). fits_in size buffers n (8 * j) in
-    let inside : p + n ≤ size = room.inside in
-    let whole = eight_times p room.aligned in
-    let Q : ℕ → Type 0 = λ r. IsFree size buffers n r in
-    let missed : fits (p / 8) ≡ false = least_misses fits (size / 8) 0 e (p / 8) (omega arith) (omega arith) in
-    let met : fits (p / 8) ≡ true = free_fits size buffers n (8 * (p / 8)) (subst Q whole room) in
-    cc
+    let missed = least_misses (λ j. fits_in size buffers n (8 * j)) (size / 8) 0 e (p / 8) in
+    let met = free_fits size buffers n (8 * (p / 8)) (rw (← eight_times p room.aligned) room) in
+    grind arith
 
 -- where there is no place, there is no room
 pub no_start_says : (size : ℕ) (buffers : List Buffer) (n : ℕ) → 8 ≤ n → start_in size buffers n ≡ None → (p : ℕ) → IsFree size buffers n p → ⊥
@@ -100,25 +56,14 @@ unfolding start_in
 no_start_says size buffers n filled e p room = no_place size buffers n p _ filled refl e room
 
 -- where the least room is, there is the place
-pub start_at : (size : ℕ) (buffers : List Buffer) (n p : ℕ) → 8 ≤ n → IsLeastFree size buffers n p → start_in size buffers n ≡ Some p
-start_at size buffers n p filled is = at (start_in size buffers n) refl
-  where
-    at : (o : Option ℕ) → start_in size buffers n ≡ o → o ≡ Some p
-    at None e = absurd (no_start_says size buffers n filled e p is.room)
-    at (Some q) e =
-        let found = start_says size buffers n q e in
-        let up = is.least q found.room in
-        let down = found.least p is.room in
-        let same : q ≡ p = omega (arith, up, down) in
-        ap (λ r. Some r) same
+pub start_at : (size : ℕ) (buffers : List Buffer) (n p : ℕ) (o : Option ℕ) → start_in size buffers n ≡ o → 8 ≤ n → IsLeastFree size buffers n p → o ≡ Some p
+start_at size buffers n p None e filled is = absurd (no_start_says size buffers n filled e p is.room)
+start_at size buffers n p (Some q) e filled is = let found = start_says size buffers n q e in let up = is.least q found.room in let down = found.least p is.room in grind arith
 
 -- where there is no room, there is no place
-pub no_start_at : (size : ℕ) (buffers : List Buffer) (n : ℕ) → ((p : ℕ) → IsFree size buffers n p → ⊥) → start_in size buffers n ≡ None
-no_start_at size buffers n none = at (start_in size buffers n) refl
-  where
-    at : (o : Option ℕ) → start_in size buffers n ≡ o → o ≡ None
-    at None e = refl
-    at (Some p) e = absurd (none p (start_says size buffers n p e).room)
+pub no_start_at : (size : ℕ) (buffers : List Buffer) (n : ℕ) (o : Option ℕ) → start_in size buffers n ≡ o → ((p : ℕ) → IsFree size buffers n p → ⊥) → o ≡ None
+no_start_at size buffers n None e none = refl
+no_start_at size buffers n (Some p) e none = absurd (none p (start_says size buffers n p e).room)
 
 -- ---- the place and the budget
 
@@ -128,35 +73,25 @@ pub record IsGiven (size : ℕ) (buffers : List Buffer) (one_way : Bool) (n p : 
 
 in_budget : (size : ℕ) (buffers : List Buffer) (n : ℕ) (one_way : Bool) → (one_way && over_budget_in size buffers n) ≡ false → IsTrue one_way → IsInBudget size buffers n
 unfolding over_budget_in
-in_budget size buffers n true e t = search (rules, tests)
-in_budget size buffers n false e t = cc
+in_budget size buffers n one_way e t = grind arith
 
 over_budget : (size : ℕ) (buffers : List Buffer) (n : ℕ) (one_way : Bool) → (one_way && over_budget_in size buffers n) ≡ true → IsTrue one_way × (size < 2 * (one_way_size buffers + n))
 unfolding over_budget_in
 over_budget size buffers n one_way e = search arith
 
-given : (size : ℕ) (buffers : List Buffer) (one_way : Bool) (n p : ℕ) (o : Option ℕ) (over : Bool) → start_in size buffers n ≡ o → (one_way && over_budget_in size buffers n) ≡ over
-    → and_then (ok_or o NoRoom) (unless (when over OverBudget)) ≡ Ok p → IsGiven size buffers one_way n p
-given size buffers one_way n p None over e f g = cc
-given size buffers one_way n p (Some q) true e f g = cc
-given size buffers one_way n p (Some q) false e f g =
-    let same : q ≡ p = cc in
-    record { least = start_says size buffers n p (e ∙ ap (λ r. Some r) same); budget = in_budget size buffers n one_way f }
-
 refused : (size : ℕ) (buffers : List Buffer) (one_way : Bool) (n : ℕ) (x : Cause) (o : Option ℕ) (over : Bool) → 8 ≤ n → start_in size buffers n ≡ o
     → (one_way && over_budget_in size buffers n) ≡ over → and_then (ok_or o NoRoom) (unless (when over OverBudget)) ≡ Err x → Refuses size buffers one_way n x
 refused size buffers one_way n x None over filled e f g = grind (arith, no_start_says)
 refused size buffers one_way n x (Some q) true filled e f g =
-    let P : Cause → Type 0 = λ y. Refuses size buffers one_way n y in
     let same : OverBudget ≡ x = cc in
     let over = over_budget size buffers n one_way f in
-    subst P same (over.0, (q, (start_says size buffers n q e).room), over.1)
+    rw (← same) (over.0, (q, (start_says size buffers n q e).room), over.1)
 refused size buffers one_way n x (Some q) false filled e f g = cc
 
 -- what a place that is given has
 pub given_says : (size : ℕ) (buffers : List Buffer) (one_way : Bool) (n p : ℕ) → start_for size buffers one_way n ≡ Ok p → IsGiven size buffers one_way n p
 unfolding start_for
-given_says size buffers one_way n p e = given size buffers one_way n p _ _ refl refl e
+given_says size buffers one_way n p e = let says = start_says size buffers n p in let budget = in_budget size buffers n one_way in grind arith
 
 -- when a place is refused
 pub refused_says : (size : ℕ) (buffers : List Buffer) (one_way : Bool) (n : ℕ) (x : Cause) → 8 ≤ n → start_for size buffers one_way n ≡ Err x → Refuses size buffers one_way n x
@@ -166,19 +101,21 @@ refused_says size buffers one_way n x filled e = refused size buffers one_way n 
 -- what is larger than the window has no place
 pub too_large : (size : ℕ) (buffers : List Buffer) (one_way : Bool) (n : ℕ) → size < n → start_for size buffers one_way n ≡ Err NoRoom
 unfolding start_for
-too_large size buffers one_way n large = grind (arith, no_start_at)
+too_large size buffers one_way n large = let none = no_start_at size buffers n _ refl in grind arith
 
 -- ---- what the answers of `place` say
 
-pub data_too_large : (size : ℕ) (buffers : List Buffer) (one_way : Bool) (bytes offsets : ℕ) → size < bytes → Err NoRoom ≡ start_for size buffers one_way (needed bytes offsets)
-data_too_large size buffers one_way bytes offsets large = sym (too_large size buffers one_way (needed bytes offsets) (omega arith))
+-- the answer in the words of what the window stands for
+pub for_all : (w : Window) (size : ℕ) (live : List Buffer) (one_way : Bool) (n : ℕ) (r : Result ℕ Cause) → r ≡ start_for w.size w.buffers one_way n → Stands w size live
+    → r ≡ start_for size live one_way n
+for_all w size live one_way n r e is = rw (← is.size_is, ← is.buffers_are) e
 
-pub offsets_too_large : (size : ℕ) (buffers : List Buffer) (one_way : Bool) (bytes offsets : ℕ) → size < offsets → Err NoRoom ≡ start_for size buffers one_way (needed bytes offsets)
-offsets_too_large size buffers one_way bytes offsets large = sym (too_large size buffers one_way (needed bytes offsets) (omega arith))
+pub can_take_of : (w : Window) (one_way : Bool) (n : ℕ) (r : Result ℕ Cause) → r ≡ start_for w.size w.buffers one_way n → IfOk r (λ p. CanHold w one_way n p)
+unfolding CanHold
+can_take_of w one_way n r e = grind arith
 
 pub least_of : (size : ℕ) (buffers : List Buffer) (one_way : Bool) (n : ℕ) (r : Result ℕ Cause) → r ≡ start_for size buffers one_way n → IfOk r (λ p. IsLeastFree size buffers n p)
-least_of size buffers one_way n (Ok p) e = (given_says size buffers one_way n p (sym e)).least
-least_of size buffers one_way n (Err x) e = tt
+least_of size buffers one_way n r e = let says = given_says size buffers one_way n in grind arith
 
 pub budget_of : (size : ℕ) (buffers : List Buffer) (one_way : Bool) (n : ℕ) (r : Result ℕ Cause) → r ≡ start_for size buffers one_way n → IfOk r (λ p. IsTrue one_way → IsInBudget size buffers n)
 budget_of size buffers one_way n (Ok p) e = (given_says size buffers one_way n p (sym e)).budget
@@ -192,3 +129,6 @@ cause_of size buffers one_way bytes offsets r e = grind (arith, refused_says)
 pub holds_inside : (w : Window) (one_way : Bool) (n p : ℕ) → CanHold w one_way n p → p + n ≤ w.size
 unfolding CanHold
 holds_inside w one_way n p can = (given_says w.size w.buffers one_way n p can).least.room.inside
+
+pub fits_whole : (size : ℕ) (bs : List Buffer) (n : ℕ) (r : Result ℕ Cause) → IsWindow size bs → IfOk r (λ p. IsLeastFree size bs n p) → IfOk r (λ p. n ≤ 4194304)
+fits_whole size bs n r is least = search arith

@@ -1,11 +1,6 @@
 -- Records, and the buffers that they stand for.
-use Rattle.std.proofs.Common.{◌≡◌, ℕ, ◌+◌, ◌<◌, ◌≤◌, Bool, List, [], ◌∷◌, ◌++◌, length, get_or, map, refl, ap, ◌∙◌, subst, arith, All}
-use Rattle.std.specs.{Prelude.{AllPairs, filter, find, not, option_map}, List.{between}}
-use Rattle.std.proofs.{lemmas.List.{length-map, get_or-map, map-append}, lemmas.List.Elements.{All-head, All-tail}, lemmas.List.Edits.{length-between}}
-use Rattle.bd_space.specs.{declared.space.Buffer.{Buffer}, Words.{changed, round_up}, Freeing.{is_made_at}, Returns.{buffer_in}, ReadItems.{hand_out}}
-use Rattle.bd_buffers.specs.declared.record.Record.{Record}
-use Rattle.bd_buffers.specs.Record.{with_bytes, standing, all_standing, IsSized, IsInMemory, is_record_at, record_in, hand_over, made_of_record}
-use Rattle.bd_buffers.specs.WindowsStand.{made_of_buffer}
+use Rattle.bd_buffers.proofs.Words.{All, All-head, All-tail, Bool, Buffer, IsInMemory, IsSized, List, Record, all_standing, ap, arith, between, buffer_in, changed, filter, find, get_or, get_or-map, hand_out, hand_over, is_made_at, is_record_at, length, length-map, made_of_buffer, made_of_record, map, map-append}
+use Rattle.bd_buffers.proofs.Words.{not, option_map, record_in, refl, round_up, standing, subst, with_bytes, ℕ, [], ◌++◌, ◌+◌, ◌∷◌, ◌≡◌, ◌≤◌}
 
 module _ {A B : Type 0} (f : A → B) where
   pub found_of : (r : B → Bool) (xs : List A) → find r (map f xs) ≡ option_map f (find (λ y. r (f y)) xs)
@@ -31,15 +26,6 @@ module _ (m : List ℕ) where
   pub kept_standing : (n : ℕ) (rs : List Record) → all_standing m (filter (λ r. not (is_record_at n r)) rs) ≡ filter (λ b. not (is_made_at n b)) (all_standing m rs)
   kept_standing n rs = filtered_of (standing m) (λ b. not (is_made_at n b)) rs
 
-  -- records stand in the order in which their buffers were made
-  pub rising_records : (rs : List Record) → AllPairs (λ a b. a.made < b.made) (all_standing m rs) → AllPairs (λ a b. a.made < b.made) rs
-  rising_records rs rising i j d lt within =
-      let len = length-map rs (standing m) in
-      let at = rising i j (standing m d) lt (omega (arith, len, within)) in
-      let first = ap made_of_buffer (get_or-map (standing m) rs i d (standing m d) (omega (arith, lt, within))) in
-      let second = ap made_of_buffer (get_or-map (standing m) rs j d (standing m d) within) in
-      omega (arith, at, first, second)
-
   pub made_standing : (rs : List Record) → map made_of_buffer (all_standing m rs) ≡ map made_of_record rs
   made_standing [] = refl
   made_standing (r ∷ rs) = ap (λ ms. r.made ∷ ms) (made_standing rs)
@@ -52,10 +38,7 @@ module _ (m : List ℕ) where
 pub same_standing : (m n : List ℕ) (rs : List Record) → All (λ r. standing n r ≡ standing m r) rs → all_standing n rs ≡ all_standing m rs
 same_standing m n [] all = refl
 same_standing m n (r ∷ rs) all =
-    let P : Record → Type 0 = λ x. standing n x ≡ standing m x in
-    let head = All-head P r rs all in
-    let rest = same_standing m n rs (All-tail P r rs all) in
-    ap (λ b. b ∷ all_standing n rs) head ∙ ap (λ bs. standing m r ∷ bs) rest
+    let head = All-head (λ x. standing n x ≡ standing m x) r rs all in let rest = same_standing m n rs (All-tail (λ x. standing n x ≡ standing m x) r rs all) in cc
 
 pub standing_kept : (m n : List ℕ) (r : Record) → between r.start (r.start + r.data_size) n ≡ between r.start (r.start + r.data_size) m
     → between (r.start + round_up r.data_size) (r.start + round_up r.data_size + r.offsets_size) n ≡ between (r.start + round_up r.data_size) (r.start + round_up r.data_size + r.offsets_size) m → standing n r ≡ standing m r
@@ -73,10 +56,6 @@ pub in_longer : (m n : List ℕ) (rs : List Record) → length m ≤ length n �
 in_longer m n rs le all k d lt = search arith
 
 -- ---- what is lent from memory, and laid out in it
-
--- a record's buffer has as many bytes as it says
-pub sized_there : (m : List ℕ) (r : Record) → IsInMemory m r → IsSized r (standing m r).bytes (standing m r).offsets
-sized_there m r is = search (arith, length-between)
 
 pub laid_is : (mid new : List ℕ) (r : Record) (b : Buffer) → b ≡ with_bytes r b.bytes b.offsets → IsSized r b.bytes b.offsets
     → between r.start (r.start + length b.bytes) mid ≡ b.bytes → between r.start (r.start + length b.bytes) new ≡ between r.start (r.start + length b.bytes) mid

@@ -1,8 +1,6 @@
 -- From before a step into it.
-use Rattle.std.proofs.Common.{arith}
-use Rattle.bd_space.specs.Space.{Space}
-use Rattle.bd_buffers.specs.{declared.windows.Windows.{Windows}, WindowsStand.{StandsFor, StandsIn}}
-use Rattle.bd_buffers.proofs.Order.{made_wider}
+use Rattle.bd_buffers.proofs.Words.{Space, StandsFor, StandsIn, Windows, arith}
+use Rattle.bd_buffers.proofs.InSpace.{made_wider}
 
 -- what stands before a step stands within it
 pub stands_in : (t : Windows) (s : Space) → StandsFor t s → StandsIn t s

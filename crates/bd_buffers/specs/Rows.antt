@@ -1,6 +1,5 @@
 -- Buffers in rows, in the order in which they were made. The row of a buffer that ended takes no bytes any more.
-use Rattle.std.specs.Prelude.{ℕ, ◌≡◌, ◌-◌, ◌<◌, ◌==◌, Bool, true, false, not, List, Option, Some, None, length, filter, map, option_map, unwrap_or, AllPairs, remove, slice_index_or, if◌then◌else◌}
-use Rattle.std.specs.List.{slice_get}
+use Rattle.std.specs.{Prelude.{ℕ, ◌≡◌, ◌-◌, ◌<◌, ◌==◌, Bool, true, false, not, List, Option, Some, None, length, filter, map, option_map, unwrap_or, AllPairs, remove, slice_index_or, if◌then◌else◌}, List.{slice_get}}
 use Rattle.bd_buffers.specs.{declared.record.Record.{Record}, Record.{made_of_record}}
 
 -- a row's buffer lives

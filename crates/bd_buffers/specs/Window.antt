@@ -2,8 +2,7 @@
 use Rattle.std.specs.{Prelude.{ℕ, ◌≡◌, ◌+◌, length, slice_index, ◌*◌, ◌/◌, ◌%◌, ◌<◌, ◌≤◌, Bool, not, List, filter, sum_by, min, IsTrue, All, AllPairs}, List.{list_all}}
 use Rattle.bd_ways.specs.Words.{Cause, Buffer}
 use Rattle.bd_uapi.specs.declared.fault.Cause.TheVariants.{NoRoom, OverBudget}
-use Rattle.bd_buffers.specs.{Buffer.{IsApart, IsPlaced}, declared.rows.Rows.{Rows}, declared.ground.Ground.{Ground}, Holes.{Hole}, declared.record.Record.{Record}}
-use Rattle.bd_buffers.specs.{Record.{all_standing, IsInMemory}, Sums.{AreSums}}
+use Rattle.bd_buffers.specs.{Buffer.{IsApart, IsPlaced}, declared.rows.Rows.{Rows}, declared.ground.Ground.{Ground}, Holes.{Hole}, declared.record.Record.{Record}, Record.{all_standing, IsInMemory}, Sums.{AreSums}}
 use Rattle.bd_ground.specs.Tiles.{Tiles, is_in}
 use Rattle.bd_keys.specs.Look.{word_room}
 

@@ -3,10 +3,8 @@
 ghost use Rattle.std.specs.Prelude.{◌≡◌, ◌+◌, ◌-◌, ◌/◌, ◌<◌, ◌≤◌, [], ℕ, Bool, List, false, not, filter, OnOk, OnErr, length, slice_index};
 ghost use Rattle.bd_keys.specs.Look.{word_room};
 ghost use Rattle.bd_ground.specs.Tiles.{Tiles, with_span};
+ghost use Rattle.bd_buffers.specs.{declared.record.Record.{Record}, Record.{bare, all_standing, is_record_at}, Sums.{sum_at, AreNoted}, Window.{Keeps, room_left, reach_of}};
 ghost use Rattle.bd_buffers.specs.Buffer as spec;
-ghost use Rattle.bd_buffers.specs.{declared.record.Record.{Record}, Record.{bare, all_standing, is_record_at}};
-ghost use Rattle.bd_buffers.specs.Sums.{sum_at, AreNoted};
-ghost use Rattle.bd_buffers.specs.Window.{Keeps, room_left, reach_of};
 
 use crate::buffer::{one_way_share, unit_at};
 use crate::record::Record;

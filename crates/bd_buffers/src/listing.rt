@@ -10,7 +10,7 @@ use bd_keys::WordMap;
 use std::alloc::AllocError;
 
 /// Appends the places at which the live buffers of these rows were made, oldest first.
-#[tactic(auto, using(crate::proofs::Changes::refused, crate::proofs::Live::one_there))]
+#[tactic(auto, using(crate::proofs::Made::refused, crate::proofs::Live::one_there))]
 pub(crate) fn list_made(rows: &[Record], places: &mut Vec<u64>) -> Result<(), AllocError>
     ensures listed { OnOk result (places.new.items ≡ places.old.items ++ live_places rows.now) }
     // Memory was asked for: there is a live buffer.

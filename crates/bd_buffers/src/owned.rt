@@ -1,10 +1,8 @@
 //! Windows by whose they are.
 
-ghost use Rattle.std.specs.Prelude.{◌≡◌, ◌<◌, ◌↔◌, not, All, IsTrue, map, filter, find};
-ghost use Rattle.std.specs.Option.{option_copied};
+ghost use Rattle.std.specs.{Prelude.{◌≡◌, ◌<◌, ◌↔◌, not, All, IsTrue, map, filter, find}, Option.{option_copied}};
 ghost use Rattle.bd_space.specs.{Words.{changed}, Freeing.{is_made_at}, ReadItems.{hand_out}};
-ghost use Rattle.bd_buffers.specs.{Homes.{Forgets}, Owners.{AreInOrder, StandsAt}};
-ghost use Rattle.bd_buffers.specs.WindowsStand.{buffers_held, made_of_buffer, is_of, is_owned_by, seen, with_buffers};
+ghost use Rattle.bd_buffers.specs.{Homes.{Forgets}, Owners.{AreInOrder, StandsAt}, WindowsStand.{buffers_held, made_of_buffer, is_of, is_owned_by, seen, with_buffers}};
 
 use crate::listing::forget;
 use crate::window::Window;
@@ -15,14 +13,6 @@ use bd_keys::WordMap;
 pub(crate) struct OwnedWindow {
     pub(crate) owner: u64,
     pub(crate) window: Window,
-}
-
-impl OwnedWindow {
-    fn is_of(&self, p: u64) -> bool
-        ensures { result ≡ is_owned_by p self.now }
-    {
-        self.owner == p
-    }
 }
 
 /// Where the window of a process stands: as guessed, or as found by halves.
@@ -98,5 +88,5 @@ pub(crate) fn forget_in(homes: &mut WordMap<u64>, windows: &[OwnedWindow], p: u6
 pub(crate) fn close_among(windows: &mut Vec<OwnedWindow>, p: u64)
     ensures { windows.new.items ≡ filter (λ w. not (is_owned_by p w)) windows.old.items }
 {
-    windows.retain(|w| !w.is_of(p));
+    windows.retain(|w| w.owner != p);
 }

@@ -3,8 +3,7 @@
 ghost use Rattle.std.specs.Prelude.{ℕ, ◌≡◌, ◌↔◌, ◌+◌, ◌<◌, ◌≤◌, ◌==◌, ◌++◌, ◌∷◌, [], not, false, None, IsTrue, All, AllPairs, MatchOption, OnOk, OnErr, filter, length, set, slice_index_or, option_copied, vec_len, vec_capacity};
 ghost use Rattle.std.specs.List.Sorted.{IsPartitionPoint};
 ghost use Rattle.bd_space.specs.Words.{changed};
-ghost use Rattle.bd_buffers.specs.Record.{is_record_at, record_in, hand_over};
-ghost use Rattle.bd_buffers.specs.Rows.{lives, live, ended, ends_empty, AreRows, IsLiveRow};
+ghost use Rattle.bd_buffers.specs.{Record.{is_record_at, record_in, hand_over}, Rows.{lives, live, ended, ends_empty, AreRows, IsLiveRow}};
 
 use crate::record::Record;
 use std::alloc::{AllocError, Global};
@@ -17,16 +16,6 @@ pub(crate) fn is_live(row: &Record) -> bool
     row.size != 0
 }
 
-// The index of the row made there, found by halves.
-fn index_by_halves(rows: &[Record], made: u64) -> Option<usize>
-    requires order { AllPairs (λ a b. a.made < b.made) rows.now }
-    ensures { MatchOption result
-        (All (λ r. (r.made == made) ≡ false) rows.now)
-        (λ i. (i < length rows.now) × ((d : Record) → (slice_index_or rows.now i d).made ≡ made)) }
-{
-    rows.binary_search_by_key(&made, |r| r.made).ok()
-}
-
 /// The index of the first row that was made at a place or behind it.
 pub(crate) fn first_row(rows: &[Record], from: u64) -> usize
     requires order { AllPairs (λ a b. a.made < b.made) rows.now }
@@ -35,7 +24,7 @@ pub(crate) fn first_row(rows: &[Record], from: u64) -> usize
     rows.partition_point(|r| r.made < from)
 }
 
-// The index of the row made there. The last is looked at first: it is what a step mostly speaks of.
+// The index of the row made there. The last is looked at first: it is what a step mostly speaks of. Others are found by halves.
 fn index_among(rows: &[Record], made: u64) -> Option<usize>
     requires order { AllPairs (λ a b. a.made < b.made) rows.now }
     ensures { MatchOption result
@@ -43,14 +32,13 @@ fn index_among(rows: &[Record], made: u64) -> Option<usize>
         (λ i. (i < length rows.now) × ((d : Record) → (slice_index_or rows.now i d).made ≡ made)) }
 {
     if !rows.is_empty() && rows[rows.len() - 1].made == made {
-        Some(rows.len() - 1)
-    } else {
-        index_by_halves(rows, made)
+        return Some(rows.len() - 1);
     }
+    rows.binary_search_by_key(&made, |r| r.made).ok()
 }
 
 // The index of the row of the live buffer made there.
-#[tactic(auto, using(crate::proofs::Live::missed_row))]
+#[tactic(auto, using(crate::proofs::Live::missed_row, crate::proofs::Live::no_row))]
 fn index_of(rows: &[Record], made: u64) -> Option<usize>
     requires order { AllPairs (λ a b. a.made < b.made) rows.now }
     ensures { MatchOption result (record_in (live rows.now) made ≡ None) (IsLiveRow rows.now made) }

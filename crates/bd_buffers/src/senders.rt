@@ -2,8 +2,7 @@
 
 ghost use Rattle.std.specs.Prelude.{◌≡◌, ◌+◌, ◌<◌, ◌≤◌, ◌^◌, ℕ};
 ghost use Rattle.bd_keys.specs.Look.{word_room};
-ghost use Rattle.bd_buffers.specs.Buffer.{one_way_share, share_from};
-ghost use Rattle.bd_buffers.specs.Record.{bare};
+ghost use Rattle.bd_buffers.specs.{Buffer.{one_way_share, share_from}, Record.{bare}};
 ghost use Rattle.bd_buffers.specs.Sums as spec;
 
 use crate::record::Record;

@@ -1,9 +1,7 @@
 //! A window.
 
 ghost use Rattle.std.specs.Prelude.{◌≡◌, ◌↔◌, ◌+◌, ◌*◌, ◌%◌, ◌<◌, ◌≤◌, [], ◌∷◌, ◌++◌, not, ℕ, Bool, List, All, length, filter, find, map, IsTrue, IsOk, IfOk, IfErr, IfSome, OnOk, OnErr, AllPairs};
-ghost use Rattle.bd_space.specs.{declared.space.Buffer.{Buffer}, Words.{changed}};
-ghost use Rattle.bd_space.specs.{Windows.{needed, start_in, over_budget_in, start_for}, Freeing.{is_made_at}};
-ghost use Rattle.bd_space.specs.{ReadItems.{hand_out}, Returns.{buffer_in}, Spam.{floods}};
+ghost use Rattle.bd_space.specs.{declared.space.Buffer.{Buffer}, Words.{changed}, Windows.{needed, start_in, over_budget_in, start_for}, Freeing.{is_made_at}, ReadItems.{hand_out}, Returns.{buffer_in}, Spam.{floods}};
 
 use crate::buffer::{needed, one_way_share, pointer_of};
 use crate::ground::{Ground, end_made, note};
@@ -112,7 +110,7 @@ impl Window {
     }
 
     // The place of a new buffer for data and offsets of these sizes.
-    #[tactic(auto, using(crate::proofs::Places::data_too_large, crate::proofs::Places::offsets_too_large))]
+    #[tactic(auto, using(crate::proofs::Places::too_large))]
     fn start_of_data(&self, one_way: bool, data_size: u64, offsets_size: u64) -> Result<u32, Cause>
         ensures computed { result ≡ start_for self.now.size self.now.buffers one_way (needed data_size offsets_size) }
         ensures fits { IfOk result (λ p. needed data_size offsets_size ≤ 4194304) }
@@ -127,6 +125,7 @@ impl Window {
     /// Where a buffer for data and offsets of these sizes in bytes would begin: at the least multiple of 8 with
     /// room for both, each rounded up to a multiple of 8, and for 8 bytes at least. `NoRoom` where there is none;
     /// then `OverBudget` where one-way buffers would take more than half of the window.
+    #[tactic(auto, using(crate::proofs::Places::for_all, crate::proofs::Places::can_take_of, crate::proofs::Places::least_of, crate::proofs::Places::budget_of, crate::proofs::Places::cause_of))]
     #[inline(always)]
     pub fn start_for(&self, one_way: bool, data_size: u64, offsets_size: u64) -> Result<u32, Cause>
         ensures computed { WindowTells (Stands self.now) result
@@ -184,7 +183,7 @@ impl Window {
     }
 
     /// Takes the newest buffer in, at a place that the window can take it at. Takes no memory.
-    #[tactic(auto, using(crate::proofs::Places::holds_inside, crate::proofs::Shares::at_sender, crate::proofs::Shares::from_within, crate::proofs::Kept::share_within, crate::proofs::Kept::is_one_way))]
+    #[tactic(auto, using(crate::proofs::Places::holds_inside, crate::proofs::Kept::at_sender, crate::proofs::Kept::from_within, crate::proofs::Kept::share_within, crate::proofs::Kept::is_one_way))]
     #[inline(always)]
     pub fn commit(&mut self, buffer: Lent<'_>)
         requires room { HasBufferRoom self.old buffer.start buffer.size }

@@ -1,13 +1,9 @@
 //! The windows of all live processes.
 
-ghost use Rattle.std.specs.Prelude.{◌≡◌, ◌≤◌, ◌++◌, ℕ, Bool, false, find, IfOk, IfSome, MatchOption, OnOk, OnErr, Some, None, Err, length, List, [], map, option_map};
-ghost use Rattle.std.specs.Option.{option_copied};
+ghost use Rattle.std.specs.{Prelude.{◌≡◌, ◌≤◌, ◌++◌, ℕ, Bool, false, find, IfOk, IfSome, MatchOption, OnOk, OnErr, Some, None, Err, length, List, [], map, option_map}, Option.{option_copied}};
 ghost use Rattle.bd_uapi.specs.declared.fault.Cause.TheVariants.{NoRoom};
-ghost use Rattle.bd_space.specs.{declared.space.Process.{Process}, declared.space.Work.{Work}, Space.{Space, opening}};
-ghost use Rattle.bd_space.specs.{Seats.{process_in}, Windows.{needed, start_for, buffers_of}, Delivery.{add_buffer}};
-ghost use Rattle.bd_space.specs.{Freeing.{without_buffer, buffer_at_pointer}, Returns.{buffer_in}, Spam.{floods}};
-ghost use Rattle.bd_space.specs.{ReadItems.{buffer_taken, read_by}, Steps.{with_process}};
-ghost use Rattle.bd_space.specs.ProcessExits.{without_process};
+ghost use Rattle.bd_space.specs.{declared.space.Process.{Process}, declared.space.Work.{Work}, Space.{Space, opening}, Seats.{process_in}, Windows.{needed, start_for, buffers_of}, Delivery.{add_buffer}, Freeing.{without_buffer, buffer_at_pointer}};
+ghost use Rattle.bd_space.specs.{Returns.{buffer_in}, Spam.{floods}, ReadItems.{buffer_taken, read_by}, Steps.{with_process}, ProcessExits.{without_process}};
 ghost use Rattle.bd_ways.specs.Tables.{Tells, Makes};
 ghost use Rattle.bd_buffers.specs.WindowsStand.{StandsFor, StandsIn, Stands, window_room, HasBufferRoom, made_of_buffer, next_made, is_owned_by, CanAdd, IsInWindow};
 
@@ -80,6 +76,7 @@ impl Windows {
     }
 
     /// Takes in the empty window of the process that the step at this place opens. Takes no memory.
+    #[tactic(auto, unfolding(crate::specs::WindowsStand::window_room))]
     pub fn open(&mut self, place: u64, window: Window)
         requires room { 1 ≤ window_room self.old }
         ensures { (s : Space) (pid euid size : ℕ) → StandsFor self.old s → s.steps ≡ place → Stands window size []
@@ -108,6 +105,7 @@ impl Windows {
     /// Where a buffer for data and offsets of these sizes in bytes would begin in the window of a process.
     /// `NoRoom` where there is no room or no such process; `OverBudget` where one-way buffers would take more than
     /// half of the window.
+    #[tactic(auto, using(crate::proofs::AllWindows::can_add_of))]
     #[inline(always)]
     pub fn start_for(
         &self,
@@ -142,7 +140,7 @@ impl Windows {
     }
 
     /// Makes room for one more buffer of a size at a place in the window of a process. All stays as it was, also on an `Err`.
-    #[tactic(auto, using(crate::proofs::AllWindows::stay, crate::proofs::AllWindows::stay_seen, crate::proofs::Homes::homes_same))]
+    #[tactic(auto, using(crate::proofs::AllWindows::stay, crate::proofs::AllWindows::stay_seen, crate::proofs::InSpace::homes_same, crate::proofs::Made::refused), unfolding(crate::specs::WindowsStand::CanAdd, crate::specs::WindowsStand::HasBufferRoom))]
     #[inline(always)]
     pub fn reserve_buffer(&mut self, p: u64, start: u32, size: u32) -> Result<(), AllocError>
         ensures stands { Makes (StandsFor self.old) (StandsFor self.new) (λ s. s) }
@@ -160,6 +158,7 @@ impl Windows {
     }
 
     /// Takes a buffer into its receiver's window, at a place that it can take it at. Takes no memory.
+    #[tactic(auto, unfolding(crate::specs::WindowsStand::HasBufferRoom))]
     #[inline(always)]
     pub fn add(&mut self, buffer: Lent<'_>)
         requires room { HasBufferRoom self.old buffer.receiver buffer.start buffer.size }
@@ -200,7 +199,7 @@ impl Windows {
     }
 
     // The same, where no guess tells whose window it is in.
-    #[tactic(auto, using(bd_keys::proofs::Rising::find_none, crate::proofs::Homes::none_home))]
+    #[tactic(auto, using(bd_keys::proofs::Rising::find_none, crate::proofs::InSpace::none_home))]
     #[inline(never)]
     fn at_home(&self, made: u64) -> Option<Lent<'_>>
         ensures found { Tells (StandsIn self.now) result (λ s. buffer_in s.buffers made) }
@@ -262,6 +261,7 @@ impl Windows {
     }
 
     /// Marks the buffer that is handed over by reading these work items, if any.
+    #[tactic(auto, using(crate::proofs::AllWindows::none_handed_by), unfolding(bd_space::specs::ReadItems::read_by))]
     #[inline(always)]
     pub fn hand_out(&mut self, made: Option<u64>)
         ensures { (s : Space) (seat : ℕ) (ws : List Work) → StandsIn self.old s

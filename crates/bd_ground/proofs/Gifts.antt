@@ -1,8 +1,7 @@
 -- What is given back is one with what is free before and behind it.
-use Rattle.std.proofs.Common.{◌≡◌, ℕ, ◌+◌, ◌-◌, ◌<◌, ◌≤◌, Bool, true, false, length, get_or, sym, ◌∙◌, subst, arith, inl, inr, ◌⊎◌}
-use Rattle.std.proofs.lemmas.Bool.{cases_lt, cases_eq, cases_order}
-use Rattle.bd_ground.specs.{declared.spans.Spans.{Spans}, Tiles.{hole_at, IsHole, IsCovered, Tiles, with_span}}
-use Rattle.bd_ground.proofs.{Bits.{clash, with_out, with_in, with_free, with_true}, Tiling.{apart}}
+use Rattle.std.proofs.{Common.{Bool, arith, false, get_or, inl, inr, length, true, ℕ, ◌+◌, ◌-◌, ◌<◌, ◌∙◌, ◌≡◌, ◌≤◌, ◌⊎◌}, lemmas.Bool.{cases_eq, cases_lt, cases_order}}
+use Rattle.bd_ground.specs.{Tiles.{IsCovered, IsHole, Tiles, hole_at, with_span}, declared.spans.Spans.{Spans}}
+use Rattle.bd_ground.proofs.{Bits.{with_free, with_in, with_out, with_true}, Tiling.{apart}}
 
 -- where the hole begins that ends at p; where none does, there
 pub record IsBegin (t : Spans) (p b : ℕ) : Type 0 where
@@ -14,16 +13,11 @@ module _ (free : ℕ → Bool) (t : Spans) (p n b : ℕ) (is : Tiles free t) (so
     (taken : (u : ℕ) → p ≤ u → u < p + n → free u ≡ false) (begin : IsBegin t p b) where
   -- a hole that begins before the span ends no later than it begins
   ends_by : (i : ℕ) → i < p → 0 < hole_at t i → i + hole_at t i ≤ p
-  ends_by i lt pos =
-      let h = is.holes i pos in
-      elim (cases_lt p (i + hole_at t i)) [
-        | inr le ↦ le
-        | inl over ↦ clash (free p) (h.all_free p (omega arith) over) (taken p (omega arith) (omega arith))
-      ]
+  ends_by i lt pos = let free_there = (is.holes i pos).all_free p in let none = taken p in grind arith
 
   -- and none begins in it
   none_in : (i : ℕ) → 0 < hole_at t i → p ≤ i → i < p + n → ⊥
-  none_in i pos low high = let h = is.holes i pos in clash (free i) (h.all_free i (omega arith) (omega arith)) (taken i low high)
+  none_in i pos low high = let free_there = (is.holes i pos).all_free i in let none = taken i low high in grind arith
 
   -- one that ends where it begins is the one that was found
   ends_at : (i : ℕ) → 0 < hole_at t i → i + hole_at t i ≡ p → i ≡ b
@@ -52,34 +46,10 @@ module _ (free : ℕ → Bool) (t : Spans) (p n b : ℕ) (is : Tiles free t) (so
           small = omega arith;
           long = omega arith;
           named = rw same_names (omega arith);
-          behind = λ u far. elim (cases_lt u p) [
-            | inl lt ↦ with_free free p n u (free_from u (omega arith) lt)
-            | inr ge ↦ elim (cases_lt u (p + n)) [
-              | inl lt ↦ with_in free p n u (ge, lt)
-              | inr over ↦ with_free free p n u (is.behind u (omega arith))
-            ]
-          ];
+          behind = λ u far. (let before = free_from u in let behind = is.behind u in let with = with_free free p n u in let inside = with_in free p n u in grind arith);
           last = λ first. rw tail (with_out free p n (b - 1) (inl (omega arith)) ∙ not_before (omega arith));
-          holes = λ i pos.
-              let ne : i ≡ b → ⊥ = λ e. (let q = subst (λ k. 0 < hole_at s k) e pos in omega arith) in
-              let same = others i ne in
-              let was : 0 < hole_at t i = omega arith in
-              let h = is.holes i was in
-              let before : i + hole_at t i < b = elim (beside i ne was) [ inl x ↦ x | inr x ↦ absurd (omega arith) ] in
-              record {
-                inside = omega arith;
-                named = rw (same, same_names) h.named;
-                all_free = λ u from to. with_free free p n u (h.all_free u from (omega arith));
-                ends = rw same (with_out free p n (i + hole_at t i) (inl (omega arith)) ∙ h.ends);
-                starts = λ first. with_out free p n (i - 1) (inl (omega arith)) ∙ h.starts first;
-              };
-          covered = λ u lt f.
-              let was : free u ≡ true = elim (with_true free p n u f) [ inl x ↦ x | inr x ↦ absurd (omega (arith, x.0)) ] in
-              let c = is.covered u (omega arith) was in
-              let from = c.from in
-              let to = c.to in
-              let same = others c.first (λ e. omega (arith, e)) in
-              record { first = c.first; from = from; to = omega arith };
+          holes = λ i pos. (let was = others i in let h = is.holes i in let side = beside i in grind (arith, with_free, with_out));
+          covered = λ u lt f. (let was = with_true free p n u f in let c = is.covered u in grind arith);
         }
 
   -- and before it
@@ -94,7 +64,7 @@ module _ (free : ℕ → Bool) (t : Spans) (p n b : ℕ) (is : Tiles free t) (so
     not_behind = search arith
 
     new_end : p + n + hole_at t (p + n) < t.tail
-    new_end = elim (cases_lt 0 (hole_at t (p + n))) [ inl pos ↦ (let h = is.holes (p + n) pos in omega arith) | inr none ↦ omega arith ]
+    new_end = let h = is.holes (p + n) in grind arith
 
     new_free : (u : ℕ) → b ≤ u → u < p + n + hole_at t (p + n) → with_span p n free u ≡ true
     new_free u low high = search arith
@@ -105,23 +75,11 @@ module _ (free : ℕ → Bool) (t : Spans) (p n b : ℕ) (is : Tiles free t) (so
     kept : (i : ℕ) → (i ≡ b → ⊥) → (i ≡ p + n → ⊥) → 0 < hole_at s i → IsHole (with_span p n free) s i
     kept i ne away pos =
         let same = others i ne away in
-        let was : 0 < hole_at t i = omega arith in
-        let h = is.holes i was in
-        let side = beside i ne was in
-        let apart_names : i + hole_at t i - 1 ≡ p + n + hole_at t (p + n) - 1 → ⊥ = λ e. elim side [
-          | inl x ↦ omega (arith, e, x)
-          | inr x ↦ elim (cases_lt 0 (hole_at t (p + n))) [
-            | inl some ↦ (let far = apart free t is (p + n) i some was (omega arith) in omega arith)
-            | inr none ↦ omega arith
-          ]
-        ] in
-        record {
-          inside = omega arith;
-          named = rw same (names (i + hole_at t i - 1) apart_names ∙ h.named);
-          all_free = λ u from to. with_free free p n u (h.all_free u from (omega arith));
-          ends = rw same (with_out free p n (i + hole_at t i) (elim side [ inl x ↦ inl (omega arith) | inr x ↦ inr (omega arith) ]) ∙ h.ends);
-          starts = λ first. with_out free p n (i - 1) (elim side [ inl x ↦ inl (omega arith) | inr x ↦ inr (omega arith) ]) ∙ h.starts first;
-        }
+        let h = is.holes i in
+        let side = beside i ne in
+        let far = apart free t is (p + n) i in
+        let name_there = names (i + hole_at t i - 1) in
+        grind (arith, with_free, with_out)
 
     covered_back : (u : ℕ) → u < s.tail → with_span p n free u ≡ true → IsCovered s u
     covered_back u lt f =
@@ -129,22 +87,11 @@ module _ (free : ℕ → Bool) (t : Spans) (p n b : ℕ) (is : Tiles free t) (so
           | inr span ↦ record { first = b; from = omega (arith, span.0); to = omega (arith, span.1) }
           | inl was ↦ (
               let c = is.covered u (omega arith) was in
-              let from = c.from in
-              let to = c.to in
               elim (cases_eq c.first b) [
-                | inl same ↦ (
-                    let low : b ≤ u = subst (λ k. k ≤ u) same from in
-                    let high : u < b + hole_at t b = subst (λ k. u < k + hole_at t k) same to in
-                    elim (cases_lt b p) [
-                      | inl less ↦ (let had = begin.hole less in record { first = b; from = low; to = omega arith })
-                      | inr ge ↦ absurd (none_in b (omega arith) (omega arith) (omega arith))
-                    ])
+                | inl same ↦ (let had = begin.hole in let none = none_in b in record { first = b; from = rw same at c.from; to = grind arith })
                 | inr ne ↦ elim (cases_eq c.first (p + n)) [
-                  | inl same ↦ (
-                      let low : p + n ≤ u = subst (λ k. k ≤ u) same from in
-                      let high : u < p + n + hole_at t (p + n) = subst (λ k. u < k + hole_at t k) same to in
-                      record { first = b; from = omega arith; to = omega arith })
-                  | inr away ↦ (let same = others c.first ne away in record { first = c.first; from = from; to = omega arith })
+                  | inl same ↦ (let from = c.from in let to = c.to in record { first = b; from = grind arith; to = grind arith })
+                  | inr away ↦ (let same = others c.first ne away in let from = c.from in let to = c.to in record { first = c.first; from = from; to = omega arith })
                 ]
               ])
         ]
@@ -159,11 +106,8 @@ module _ (free : ℕ → Bool) (t : Spans) (p n b : ℕ) (is : Tiles free t) (so
           behind = λ u far. with_free free p n u (is.behind u (omega arith));
           last = λ first. rw tail (with_out free p n (t.tail - 1) (inr (omega arith)) ∙ is.last (omega arith));
           holes = λ i pos. elim (cases_eq i b) [
-            | inl same ↦ subst (λ k. IsHole (with_span p n free) s k) (sym same) one
-            | inr ne ↦ elim (cases_eq i (p + n)) [
-              | inl here ↦ absurd (let q = subst (λ k. 0 < hole_at s k) here pos in omega arith)
-              | inr away ↦ kept i ne away pos
-            ]
+            | inl same ↦ rw same one
+            | inr ne ↦ elim (cases_eq i (p + n)) [ inl here ↦ absurd (let q = rw here at pos in omega arith) | inr away ↦ kept i ne away pos ]
           ];
           covered = covered_back;
         }

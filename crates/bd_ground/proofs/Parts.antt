@@ -1,7 +1,7 @@
 -- What parts are bounded by, where a number is written or more come.
-use Rattle.std.proofs.Common.{◌≡◌, ℕ, ◌+◌, ◌-◌, ◌*◌, ◌/◌, ◌<◌, ◌≤◌, List, length, get_or, set, ap, ◌∙◌, subst, arith, All}
+use Rattle.std.proofs.{Common.{All, List, ap, arith, get_or, length, set, subst, ℕ, ◌*◌, ◌+◌, ◌-◌, ◌/◌, ◌<◌, ◌∙◌, ◌≡◌, ◌≤◌}, lemmas.List.{get_or-set_other, get_or-set_same, length-set}}
+use Rattle.std.proofs.lemmas.List.Edits.{get_or-between, length-between}
 use Rattle.std.specs.List.{between}
-use Rattle.std.proofs.{lemmas.List.{get_or-set_same, get_or-set_other, length-set}, lemmas.List.Edits.{length-between, get_or-between}}
 use Rattle.bd_ground.specs.Peaks.{AreBelow, ArePeaks}
 
 -- what holds of each of a part holds at its indices

@@ -1,4 +1,4 @@
-use Rattle.std.proofs.Common.{length, ap, arith}
+use Rattle.bd_buffers.proofs.Words.{ap, arith, length}
 use Rattle.bd_buffers.proofs.lent.lay.Goals as goal
 
 pub write-requires : goal.write-requires

@@ -1,5 +1,4 @@
-use Rattle.std.proofs.Common.{take}
-use Rattle.bd_buffers.specs.{Homes.{Forgets}, Rows.{live_places}}
+use Rattle.bd_buffers.proofs.Words.{Forgets, live_places, take}
 use Rattle.bd_buffers.proofs.listing.forget.Given as goal
 
 -- those in rows before this one are forgotten

@@ -1,5 +1,4 @@
-use Rattle.std.proofs.Common.{◌≡◌, ◌++◌, take}
-use Rattle.bd_buffers.specs.Rows.{live_places}
+use Rattle.bd_buffers.proofs.Words.{live_places, take, ◌++◌, ◌≡◌}
 use Rattle.bd_buffers.proofs.listing.list_made.Given as goal
 
 -- those in rows before this one are listed

@@ -1,6 +1,4 @@
-use Rattle.std.proofs.Common.{ap, sym, ◌∙◌, arith, true, false}
-use Rattle.std.specs.Prelude.{option_map, nat_le}
-use Rattle.bd_buffers.specs.{Record.{made_of_record}, Rows.{live}}
+use Rattle.bd_buffers.proofs.Words.{ap, arith, false, live, made_of_record, nat_le, option_map, sym, true, ◌∙◌}
 use Rattle.bd_buffers.proofs.{Live.{from_point, next_row}, Standing.{found_of}}
 use Rattle.bd_buffers.proofs.listing.next_from.Goals as goal
 

@@ -1,6 +1,4 @@
-use Rattle.std.proofs.Common.{◌≡◌, drop}
-use Rattle.std.specs.Prelude.{find, nat_le}
-use Rattle.bd_buffers.specs.{declared.record.Record.{Record}, Rows.{lives, live}}
+use Rattle.bd_buffers.proofs.Words.{Record, drop, find, live, lives, nat_le, ◌≡◌}
 use Rattle.bd_buffers.proofs.listing.next_from.Given as goal
 
 -- the first from the place on is the first in the rows from i on

@@ -1,6 +1,4 @@
-use Rattle.std.proofs.Common.{rules, tests, not}
-use Rattle.std.proofs.lemmas.Fn.{filter_same}
-use Rattle.bd_buffers.specs.{declared.owned.OwnedWindow.{OwnedWindow}, WindowsStand.{is_owned_by}}
+use Rattle.bd_buffers.proofs.Words.{OwnedWindow, filter_same, is_owned_by, not, rules, tests}
 use Rattle.bd_buffers.proofs.owned.close_among.Goals as goal
 
 pub returns : goal.returns

@@ -1,6 +1,4 @@
-use Rattle.std.proofs.Common.{List, refl}
-use Rattle.std.specs.Prelude.{not, filter}
-use Rattle.bd_space.specs.{declared.space.Buffer.{Buffer}, Freeing.{is_made_at}}
+use Rattle.bd_buffers.proofs.Words.{Buffer, List, Some, filter, is_made_at, not, refl}
 use Rattle.bd_buffers.proofs.AllWindows.{one_made}
 use Rattle.bd_buffers.proofs.owned.free_in.Goals as goal
 

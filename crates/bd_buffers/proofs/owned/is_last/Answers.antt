@@ -1,15 +1,7 @@
-use Rattle.std.proofs.Common.{◌<◌, sym}
-use Rattle.std.proofs.lemmas.Bool.{ltb-true, lt-ltb}
-use Rattle.bd_keys.proofs.Rising.{newest_all}
-use Rattle.bd_buffers.specs.declared.owned.OwnedWindow.{OwnedWindow}
-use Rattle.bd_buffers.proofs.Owners.{last_has}
+use Rattle.bd_buffers.proofs.Words.{OwnedWindow, Some, lt-ltb, ltb-true, newest_all, newest_last, sym}
 use Rattle.bd_buffers.proofs.owned.is_last.Goals as goal
 
 pub returns-in-Some : goal.returns-in-Some
 returns-in-Some c =
-    let windows = c.args.windows.now in
-    let w = c.in-Some.w.now in
-    let last = sym c.in-Some.ensures.value in (
-      λ t. newest_all (λ (x : OwnedWindow). x.owner) windows w c.args.owner c.requires.order last (ltb-true _ _ t),
-      λ all. lt-ltb _ _ (last_has (λ (x : OwnedWindow). x.owner < c.args.owner) windows w last all),
-    )
+    let owner = λ (x : OwnedWindow). x.owner in let last = sym c.in-Some.ensures.value in
+    (λ t. newest_all owner c.args.windows.now _ c.args.owner c.requires.order last (ltb-true _ _ t), λ all. lt-ltb _ _ (newest_last owner c.args.windows.now _ c.args.owner last all))

@@ -1,6 +1,4 @@
-use Rattle.std.proofs.Common.{rules}
-use Rattle.std.proofs.lemmas.List.Sorted.{answers_always}
-use Rattle.bd_buffers.specs.declared.owned.OwnedWindow.{OwnedWindow}
+use Rattle.bd_buffers.proofs.Words.{OwnedWindow, answers_always, rules}
 use Rattle.bd_buffers.proofs.Made.{halved}
 use Rattle.bd_buffers.proofs.owned.position_of.Goals as goal
 

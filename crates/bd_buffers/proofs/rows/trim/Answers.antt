@@ -1,5 +1,4 @@
-use Rattle.std.proofs.Common.{ap, sym, ◌∙◌, arith}
-use Rattle.bd_buffers.specs.Rows.{ends_empty}
+use Rattle.bd_buffers.proofs.Words.{ap, arith, ends_empty, sym, ◌∙◌}
 use Rattle.bd_buffers.proofs.Live.{popped}
 use Rattle.bd_buffers.proofs.rows.trim.Goals as goal
 

@@ -1,6 +1,4 @@
-use Rattle.std.proofs.Common.{◌≡◌, ◌≤◌, vec_len}
-use Rattle.std.specs.Prelude.{vec_capacity}
-use Rattle.bd_buffers.specs.Rows.{live}
+use Rattle.bd_buffers.proofs.Words.{live, vec_capacity, vec_len, ◌≡◌, ◌≤◌}
 use Rattle.bd_buffers.proofs.Live.{InOrder}
 use Rattle.bd_buffers.proofs.rows.trim.Given as goal
 

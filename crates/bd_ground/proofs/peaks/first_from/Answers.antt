@@ -1,5 +1,4 @@
-use Rattle.std.proofs.Common.{◌≡◌, ◌+◌, ◌-◌, ◌≤◌, length, arith}
-use Rattle.std.proofs.lemmas.List.Edits.{length-between, get_or-between}
+use Rattle.std.proofs.{Common.{arith, length, ◌+◌, ◌-◌, ◌≡◌, ◌≤◌}, lemmas.List.Edits.{get_or-between, length-between}}
 use Rattle.bd_ground.proofs.peaks.first_from.Goals as goal
 
 pub returns-clause-below : goal.returns-clause-below

@@ -1,5 +1,4 @@
-use Rattle.std.proofs.Common.{◌*◌, ◌≤◌, length, arith, inl, inr}
-use Rattle.std.proofs.{lemmas.Bool.{cases_lt}, lemmas.List.{get_or_past}}
+use Rattle.std.proofs.{Common.{arith, inl, inr, length, ◌*◌, ◌≤◌}, lemmas.Bool.{cases_lt}, lemmas.List.{get_or_past}}
 use Rattle.bd_ground.proofs.Parts.{part_has}
 use Rattle.bd_ground.proofs.peaks.greatest_in.Goals as goal
 

@@ -1,18 +1,12 @@
-use Rattle.std.proofs.Common.{◌≡◌, ◌-◌, ◌<◌, ap, sym, length, subst, List, All, Some}
-use Rattle.std.specs.List.{slice_get}
-use Rattle.std.proofs.{lemmas.Bool.{ltb-true, lt-ltb}, lemmas.List.Elements.{All-filter}}
-use Rattle.bd_buffers.specs.{declared.record.Record.{Record}, declared.rows.Rows.{Rows}, Rows.{lives, live}}
-use Rattle.bd_keys.proofs.Rising.{newest_all}
+use Rattle.bd_buffers.proofs.Words.{All-filter, Record, Some, length, lives, lt-ltb, ltb-true, newest_all, slice_get, sym, ◌-◌, ◌<◌, ◌≡◌}
 use Rattle.bd_buffers.proofs.Live.{last_below}
 use Rattle.bd_buffers.proofs.rows.Rows.is_newest.Goals as goal
 
 pub returns-in-Some : goal.returns-in-Some
 returns-in-Some c =
     let rows = c.self.inside.rows.items in
-    let made = c.args.made in
     let last : slice_get rows (length rows - 1) ≡ Some c.in-Some.r.now = sym (rw c.deref.ensures.value at c.in-Some.ensures.value) in
-    let same : live rows ≡ c.args.self.now.records = ap (λ (v : Rows). v.records) c.self.view_is in
-    let P : List Record → Type 0 = λ xs. All (λ b. b.made < made) xs in (
-      λ t. subst P same (All-filter lives (λ b. b.made < made) rows (newest_all (λ (r : Record). r.made) rows c.in-Some.r.now made c.self.invariant.in_order last (ltb-true _ _ t))),
-      λ all. lt-ltb _ _ (last_below rows c.in-Some.r.now made c.self.invariant last (subst P (sym same) all)),
+    rw (← c.self.view_is) (
+      λ t. All-filter lives (λ b. b.made < c.args.made) rows (newest_all (λ (r : Record). r.made) rows c.in-Some.r.now c.args.made c.self.invariant.in_order last (ltb-true _ _ t)),
+      λ all. lt-ltb _ _ (last_below rows c.in-Some.r.now c.args.made c.self.invariant last all),
     )

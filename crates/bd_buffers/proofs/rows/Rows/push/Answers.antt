@@ -1,19 +1,13 @@
-use Rattle.std.proofs.Common.{◌≡◌, ◌∙◌, ◌<◌, ◌++◌, ◌∷◌, [], ap, sym, subst, true, not, ne_eqb, List, All, arith}
-use Rattle.bd_buffers.specs.{declared.record.Record.{Record}, declared.rows.Rows.{Rows}, Rows.{lives, live, AreRows}}
+use Rattle.bd_buffers.proofs.Words.{Record, arith, lives, ne_eqb, true, ◌<◌, ◌≡◌}
 use Rattle.bd_buffers.proofs.Live.{more_live, pushed_rows}
 use Rattle.bd_buffers.proofs.rows.Rows.push.Goals as goal
 
 filled : (r : Record) → 0 < r.size → lives r ≡ true
-filled r lt = ap not (ne_eqb r.size 0 (λ e. absurd (omega (arith, lt, e))))
+filled r lt = grind (arith, ne_eqb)
 
 pub invariant_of-self : goal.invariant_of-self
 invariant_of-self c =
-    let rows = c.self.inside.rows.items in
-    let Q : List Record → Type 0 = λ xs. All (λ b. b.made < c.args.buffer.made) xs in
-    subst AreRows (sym c.push_reserved.ensures.items) (pushed_rows rows c.args.buffer c.self.invariant (filled c.args.buffer c.requires.filled)
-    (subst Q (ap (λ (v : Rows). v.records) (sym c.self.view_is)) c.requires.newest))
+    rw c.push_reserved.ensures.items (pushed_rows c.self.inside.rows.items c.args.buffer c.self.invariant (filled c.args.buffer c.requires.filled) (rw (← c.self.view_is) at c.requires.newest))
 
 pub returns-clause-records : goal.returns-clause-records
-returns-clause-records c =
-    ap live c.push_reserved.ensures.items ∙ more_live c.self.inside.rows.items c.args.buffer true (filled c.args.buffer c.requires.filled)
-    ∙ ap (λ (v : Rows). v.records ++ c.args.buffer ∷ []) c.self.view_is
+returns-clause-records c = rw (← c.self.view_is, c.push_reserved.ensures.items) (more_live c.self.inside.rows.items c.args.buffer true (filled c.args.buffer c.requires.filled))

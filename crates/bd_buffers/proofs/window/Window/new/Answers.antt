@@ -1,19 +1,7 @@
-use Rattle.std.proofs.Common.{List, [], refl, sym, subst, arith}
-use Rattle.bd_buffers.specs.{declared.record.Record.{Record}, declared.ground.Ground.{Ground}, Window.{Keeps, is_free_unit}}
+use Rattle.bd_buffers.proofs.Words.{arith, is_free_unit, refl, []}
 use Rattle.bd_buffers.proofs.Kept.{window_empty}
 use Rattle.bd_buffers.proofs.window.Window.new.Goals as goal
 
 pub invariant_of-result : goal.invariant_of-result
 invariant_of-result c =
-    let g : Ground = record { size = c.args.size; one_way = 0; senders = c.new-2.result; starts = c.new-3.result; spans = c.new-4.result; memory = c.new-5.result } in
-    subst (λ (rs : List Record). Keeps rs g) (sym c.new.ensures) (record {
-      notes = record {
-        window = window_empty c.args.size c.requires.0 c.requires.1;
-        whole = omega (arith, c.requires.0, c.new-4.ensures.size);
-        tiles = c.new-4.ensures.tiles (is_free_unit []) (λ u. refl);
-        starts = λ k d lt. absurd (omega arith);
-        total = refl;
-        sums = λ m. c.new-2.ensures _;
-      };
-      there = λ k d lt. absurd (omega arith);
-    })
+    let tiles = c.new-4.ensures.tiles (is_free_unit []) (λ u. refl) in let size = c.new-4.ensures.size in rw c.new.ensures (search (arith, window_empty))

@@ -1,7 +1,5 @@
-use Rattle.std.proofs.Common.{arith, ◌∙◌, ap, sym, ◌+◌, ◌++◌, append-nil, map}
-use Rattle.std.proofs.lemmas.List.{length-map}
-use Rattle.bd_buffers.specs.WindowsStand.{buffers_held, made_of_buffer}
-use Rattle.bd_buffers.proofs.{Changes.{on_ok, on_err}, AllWindows.{held}}
+use Rattle.bd_buffers.proofs.Words.{None, Some, ap, append-nil, arith, buffers_held, length-map, made_of_buffer, map, sym, ◌++◌, ◌+◌, ◌∙◌}
+use Rattle.bd_buffers.proofs.{AllWindows.{held}, Made.{on_err, on_ok}}
 use Rattle.bd_buffers.proofs.windows.Windows.list_made.Goals as goal
 
 pub returns-in-None-clause-listed : goal.returns-in-None-clause-listed

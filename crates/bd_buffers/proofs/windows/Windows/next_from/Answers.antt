@@ -1,5 +1,4 @@
-use Rattle.std.proofs.Common.{ap, ◌+◌, ◌∙◌}
-use Rattle.bd_buffers.specs.WindowsStand.{buffers_held, next_made}
+use Rattle.bd_buffers.proofs.Words.{None, ap, buffers_held, next_made, ◌+◌, ◌∙◌}
 use Rattle.bd_buffers.proofs.AllWindows.{held}
 use Rattle.bd_buffers.proofs.windows.Windows.next_from.Goals as goal
 

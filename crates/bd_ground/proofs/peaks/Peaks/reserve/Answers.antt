@@ -1,4 +1,4 @@
-use Rattle.std.proofs.Common.{arith, ℕ, ◌≡◌, ◌≤◌, Bool, true, false, cond}
+use Rattle.std.proofs.Common.{Bool, arith, cond, false, true, ℕ, ◌≡◌, ◌≤◌}
 use Rattle.bd_ground.proofs.Parts.{below_same}
 use Rattle.bd_ground.proofs.peaks.Peaks.reserve.Goals as goal
 

@@ -1,5 +1,4 @@
-use Rattle.std.proofs.Common.{◌≡◌, ◌+◌, ◌-◌, ◌<◌, ◌≤◌, refl, ◌∙◌, arith, get_or, inl, inr, subst}
-use Rattle.std.proofs.lemmas.Bool.{cases_lt}
+use Rattle.std.proofs.{Common.{arith, get_or, inl, inr, refl, subst, ◌+◌, ◌-◌, ◌<◌, ◌∙◌, ◌≡◌, ◌≤◌}, lemmas.Bool.{cases_lt}}
 use Rattle.bd_ground.specs.Tiles.{hole_at}
 use Rattle.bd_ground.proofs.Gifts.{IsBegin, tiles_back, tiles_given}
 use Rattle.bd_ground.proofs.spans.Spans.give.Goals as goal

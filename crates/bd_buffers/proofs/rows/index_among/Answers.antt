@@ -1,8 +1,6 @@
-use Rattle.std.proofs.Common.{rules}
-use Rattle.std.proofs.lemmas.List.Sorted.{answers_always}
-use Rattle.bd_buffers.specs.declared.record.Record.{Record}
+use Rattle.bd_buffers.proofs.Words.{Record, answers_always, rules}
 use Rattle.bd_buffers.proofs.Made.{halved}
-use Rattle.bd_buffers.proofs.rows.index_by_halves.Goals as goal
+use Rattle.bd_buffers.proofs.rows.index_among.Goals as goal
 
 pub returns : goal.returns
 returns c =
