@@ -1,13 +1,15 @@
 //! The step that reads.
 
-ghost use Rattle.std.specs.Prelude.{◌≡◌, ◌+◌, ◌-◌, ◌*◌, ◌≤◌, ◌++◌, ◌∷◌, [], map, false, None, Some, length, option_map, IfOk, IfSome, OnOk, OnErr, nat_lt};
+ghost use Rattle.std.specs.Prelude.{◌≡◌, ◌+◌, ◌-◌, ◌*◌, ◌≤◌, ◌++◌, ◌∷◌, [], map, None, Some, length, option_map, IfOk, IfSome, OnOk, OnErr, nat_lt};
 ghost use Rattle.std.specs.List.{filter_map};
 ghost use Rattle.bd_uapi.specs.declared.command.Return.TheVariants.{Noop};
 ghost use Rattle.bd_codec.specs.Spelling.{return_bytes};
-ghost use Rattle.bd_space.specs.{Space.{Space}, Words.{first_of}};
+ghost use Rattle.std.specs.Option.{is_none};
+ghost use Rattle.bd_space.specs.{Space.{Space}, Seats.{thread_in}, Words.{first_of}};
 ghost use Rattle.bd_space.specs.Todo as todo;
 ghost use Rattle.bd_space.specs.ReadItems as spec;
 ghost use Rattle.bd_space.specs.Returns as returns;
+ghost use Rattle.bd_ways.specs.Tables.{TellsWhere};
 ghost use Rattle.bd_buffers.specs.WindowsStand.{made_of_buffer};
 ghost use Rattle.bd_objects.specs.Room.{reference_room};
 ghost use Rattle.bd_calls.specs.Room.{work_room};
@@ -219,21 +221,20 @@ fn is_full(stream: &Vec<u8>, limit: u32) -> bool
 }
 
 impl Tables {
-    // The list that a thread reads, if anything is on it.
+    // The list that a live thread reads, if anything is on it.
     fn list_to_read(&self, thread: &Thread) -> Option<TodoList>
         ensures some { IfSome result
             (λ list. (s : Space) → Before self.now s
             → todo.list_to_read s thread.now ≡ todo.work_on s.todo (Some list)) }
-        ensures filled { IfSome result
-            (λ list. (s : Space) → Before self.now s → spec.none_due (todo.list_to_read s thread.now) ≡ false) }
-        ensures none { result ≡ None → (s : Space) → Before self.now s → todo.list_to_read s thread.now ≡ [] }
+        ensures none { TellsWhere (Before self.now) (λ s. thread_in s.threads thread.now.seat ≡ Some thread.now)
+            (is_none result) (λ s. spec.none_due (todo.list_to_read s thread.now)) }
     {
         match self.calls.reads(thread) {
-            Some(list) => match self.calls.work_at(list, 0) {
-                Some(_) => Some(list),
-                None => None,
-            },
-            None => None,
+            // A thread reads its own list where something is there.
+            Some(TodoList::OfThread(seat)) => Some(TodoList::OfThread(seat)),
+            // What is kept of the seat tells that of its process's list: it isn't looked up for it.
+            Some(list) if self.calls.is_ready(thread.seat) => Some(list),
+            _ => None,
         }
     }
 
