@@ -1,12 +1,13 @@
 //! The calls of a seat, whose answers it keeps.
 ghost use Rattle.std.specs.Prelude.{◌≡◌, ◌≤◌, [], length, vec_capacity, Some, None, OnOk};
 ghost use Rattle.bd_space.specs.declared.step.Request.TheVariants.{Write};
-ghost use Rattle.bd_c.specs.{Told.{told_of}, Seats.{Stays, IsSame, HasRoom, IsPlace, Asks, AsksAgain, given_back, Looks, Posts, Serves, Collects, Withdraws}};
+ghost use Rattle.bd_driver.specs.declared.outcome.Outcome.TheVariants.{Back};
+ghost use Rattle.bd_c.specs.{Told.{told_of}, Seats.{Stays, IsSame, HasRoom, IsPlace, Keeps, Asks, AsksAgain, given_back, Looks, Posts, Serves, Collects, Withdraws}};
 
 use crate::answers::Told;
 use crate::seat::OwnedSeat;
 use crate::status::Status;
-use bd_driver::{Outcome, Page, Served};
+use bd_driver::{Outcome, Page, Served, Why};
 use bd_space::{Answer, Bytes, Request};
 use std::alloc::AllocError;
 use std::mem::replace;
@@ -75,6 +76,15 @@ impl OwnedSeat {
         *told = Told::of(latest);
     }
 
+    // Keeps and tells that a request came back. On its own: else each call clears room for an outcome that few come to.
+    #[inline(never)]
+    fn keep_back(&mut self, request: Request, why: Why, told: &mut Told)
+        ensures kept { self.new ≡ record self.old { latest = Some (Back request why) } }
+        ensures told { told.new ≡ told_of (Back request why) }
+    {
+        self.keep(Outcome::Back { request, why }, told);
+    }
+
     /// Has the driver run a request, and keeps and tells the outcome. Nothing is done while a request is handed over.
     // Put into the call that C makes most: the answer is written where it is kept.
     #[inline(always)]
@@ -98,7 +108,7 @@ impl OwnedSeat {
                 *to = span.to;
                 *told = Told::done(answer, u64::from(span.from), u64::from(span.to));
             }
-            Err(why) => self.keep(Outcome::Back { request, why }, told),
+            Err(why) => self.keep_back(request, why, told),
         }
         Status::Done
     }
@@ -113,17 +123,19 @@ impl OwnedSeat {
         self.area.reserve(area.len())
     }
 
-    // The write of which these are the bytes, for which room was made.
+    // Keeps and tells that a write came back, with copies of its bytes, for which room was made. On its own, as `keep_back`.
     #[inline(never)]
-    fn copied(&mut self, stream: &[u8], area: &[u8]) -> Request
+    fn keep_write(&mut self, stream: &[u8], area: &[u8], why: Why, told: &mut Told)
         requires { HasRoom self.old stream.now area.now }
-        ensures same { IsSame self.old self.new }
-        ensures request { result ≡ Write stream.now area.now }
+        ensures stays { Stays self.old self.new }
+        ensures seat { self.new.seat ≡ self.old.seat }
+        ensures keeps { Keeps self.new (Back (Write stream.now area.now) why) told.new }
     {
-        Request::Write {
+        let request = Request::Write {
             stream: taken(&mut self.stream, stream),
             area: taken(&mut self.area, area),
-        }
+        };
+        self.keep(Outcome::Back { request, why }, told);
     }
 
     /// Has the driver run a write, as `run` does, whose bytes are lent. They are copied only where the write comes back.
@@ -155,10 +167,7 @@ impl OwnedSeat {
                 *to = span.to;
                 *told = Told::done(answer, u64::from(span.from), u64::from(span.to));
             }
-            Err(why) => {
-                let request = self.copied(stream, area);
-                self.keep(Outcome::Back { request, why }, told);
-            }
+            Err(why) => self.keep_write(stream, area, why, told),
         }
         Status::Done
     }

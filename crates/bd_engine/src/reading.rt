@@ -5,12 +5,12 @@ ghost use Rattle.bd_ways.specs.Words as words;
 ghost use Rattle.bd_space.specs.Runs.{answered};
 ghost use Rattle.bd_step.specs.{Plain.{IsBrief, IsGot}, declared.answer.Brief.TheVariants.{Got}};
 
-use crate::memory::kept;
-use crate::run::answered;
+use crate::memory::leave_much;
+use crate::run::plainly;
 use bd_space::{Answer, Bytes, Entry, Notes, Step, StepAnswer};
 use bd_step::Brief;
 use std::alloc::Global;
-use std::mem::replace;
+use std::mem::{replace, swap};
 
 /// The entry of the latest step, which stays from step to step: nothing of it is cleared for the next one. What was read and is given
 /// up stands there as its answer, or as the spare one, so that its memory is used by the next reads.
@@ -35,8 +35,21 @@ fn put_step(to: &mut Step, made: Step)
     *to = made;
 }
 
-fn is_got(answer: &StepAnswer) -> bool {
-    matches!(answer, StepAnswer::Got { .. })
+// Whether something was read, and its memory is here still: each read has the bytes of a few returns at least.
+#[inline(always)]
+fn has_memory(answer: &StepAnswer) -> bool {
+    match answer {
+        StepAnswer::Got { stream, .. } => !stream.is_empty(),
+        _ => false,
+    }
+}
+
+// The bytes, in the memory that they have. None are left.
+#[inline(always)]
+fn take(alloc: Global, bytes: &mut Bytes) -> Bytes
+    ensures { result ≡ bytes.old }
+{
+    replace(bytes, Bytes::new(Vec::new(alloc)))
 }
 
 impl Reading {
@@ -69,14 +82,74 @@ impl Reading {
         requires { brief ≡ Got → IsGot self.old.entry.answer }
         ensures { (answer : words.StepAnswer) → IsBrief brief answer → (brief ≡ Got → self.old.entry.answer ≡ answer) → told.new ≡ answered answer }
     {
-        let spare = replace(&mut self.spare, StepAnswer::Exited);
-        *told = answered(brief, replace(&mut self.entry.answer, spare));
+        match brief {
+            Brief::Got => self.tell_read(told),
+            Brief::Plain(plain) => {
+                self.keep(told);
+                *told = plainly(plain);
+            }
+        }
     }
 
-    // The bytes, in their memory unless that is much. None are left.
+    // Tells what was read. Where something was told that was read before, the two change places, each in its memory.
     #[inline(always)]
-    fn take(&self, bytes: &mut Bytes) -> Bytes {
-        kept(replace(bytes, Bytes::new(Vec::new(self.alloc))))
+    fn tell_read(&mut self, told: &mut Answer)
+        requires { IsGot self.old.entry.answer }
+        ensures { told.new ≡ answered self.old.entry.answer }
+    {
+        let StepAnswer::Got {
+            stream: returns,
+            bytes: data,
+            offsets: objects,
+        } = &mut self.entry.answer
+        else {
+            unreachable!()
+        };
+        if let Answer::Got {
+            stream,
+            bytes,
+            offsets,
+        } = told
+        {
+            swap(stream, returns);
+            swap(bytes, data);
+            swap(offsets, objects);
+            leave_much(self.alloc, returns);
+            leave_much(self.alloc, data);
+            leave_much(self.alloc, objects);
+            return;
+        }
+        *told = Answer::Got {
+            stream: take(self.alloc, returns),
+            bytes: take(self.alloc, data),
+            offsets: take(self.alloc, objects),
+        };
+        self.put_spare();
+    }
+
+    // The next read uses the spare memory, if there is some.
+    #[inline(always)]
+    fn put_spare(&mut self) {
+        if !has_memory(&self.spare) {
+            return;
+        }
+        if let StepAnswer::Got {
+            stream,
+            bytes,
+            offsets,
+        } = &mut self.spare
+        {
+            if let StepAnswer::Got {
+                stream: returns,
+                bytes: data,
+                offsets: objects,
+            } = &mut self.entry.answer
+            {
+                swap(stream, returns);
+                swap(bytes, data);
+                swap(offsets, objects);
+            }
+        }
     }
 
     /// Keeps the memory of what was read, where that was told and something else is to be told in its place: from now on that is the
@@ -91,10 +164,13 @@ impl Reading {
         else {
             return;
         };
+        leave_much(self.alloc, stream);
+        leave_much(self.alloc, bytes);
+        leave_much(self.alloc, offsets);
         let memory = StepAnswer::Got {
-            stream: self.take(stream),
-            bytes: self.take(bytes),
-            offsets: self.take(offsets),
+            stream: take(self.alloc, stream),
+            bytes: take(self.alloc, bytes),
+            offsets: take(self.alloc, offsets),
         };
         *told = Answer::Wrote {
             consumed: 0,
@@ -107,7 +183,7 @@ impl Reading {
     // The next read uses this memory, or the one after it.
     #[inline(always)]
     fn put_memory(&mut self, memory: StepAnswer) {
-        if is_got(&self.entry.answer) {
+        if has_memory(&self.entry.answer) {
             self.spare = memory;
         } else {
             self.entry.answer = memory;

@@ -1,20 +1,19 @@
 //! The run of a request: one step, or for a write one for each of its commands.
 
 ghost use Rattle.std.specs.Prelude.{◌≡◌, ◌<◌, [], true, Some, IfOk, IfErr, IfSome, OnErr, MatchOption};
-ghost use Rattle.bd_ways.specs.Words as words;
 ghost use Rattle.bd_space.specs.declared.step.Request.{Request};
 ghost use Rattle.bd_space.specs.{Space.{Space}, Histories.{HasPlace, is_at_limit}};
 ghost use Rattle.bd_space.specs.Runs as runs;
 ghost use Rattle.bd_space.specs.Runs.{HasRun, HasEntry, IsAtLimit, answered};
 ghost use Rattle.bd_spelling.specs.Spelling.{SpellsCommand};
-ghost use Rattle.bd_step.specs.{Plain.{IsBrief, IsGot}, declared.answer.Brief.TheVariants.{Got}};
+ghost use Rattle.bd_step.specs.Plain.{answer_of};
 ghost use Rattle.bd_engine.specs.{Refusals.{FullOnly, MemoryOnly}, Writing.{IsWrite, IsOneStep}};
 
 use crate::engine::Engine;
 use crate::reading::Reading;
 use crate::wide::WideEngine;
-use bd_space::{Answer, Request, Step, StepAnswer};
-use bd_step::{Brief, Plain, StepError};
+use bd_space::{Answer, Request, Step};
+use bd_step::{Plain, StepError};
 
 /// What a run answered, and the places of its steps: from `from` up to and without `to`.
 #[derive(Drop, Debug)]
@@ -36,39 +35,16 @@ pub struct Span {
     pub to: u32,
 }
 
-// What was read, as the answer to a request.
+// What the only step of a request answers it that takes no memory.
 #[inline(always)]
-fn got(answer: StepAnswer) -> Answer
-    requires { IsGot answer }
-    ensures { result ≡ answered answer }
+pub(crate) fn plainly(plain: Plain) -> Answer
+    ensures { result ≡ answered (answer_of plain) }
 {
-    match answer {
-        StepAnswer::Got {
-            stream,
-            bytes,
-            offsets,
-        } => Answer::Got {
-            stream,
-            bytes,
-            offsets,
-        },
-        _ => unreachable!(),
-    }
-}
-
-// What the only step of a request answers it: its answer in brief, and what was read.
-#[inline(always)]
-pub(crate) fn answered(brief: Brief, again: StepAnswer) -> Answer
-    requires { brief ≡ Got → IsGot again }
-    ensures { (answer : words.StepAnswer) → IsBrief brief answer → (brief ≡ Got → again ≡ answer) → result ≡ answered answer }
-{
-    match brief {
-        Brief::Plain(Plain::Opened) => Answer::Opened,
-        Brief::Plain(Plain::Exited) => Answer::Exited,
-        Brief::Plain(Plain::Refused(fault)) => Answer::Refused(fault),
-        Brief::Plain(Plain::Set | Plain::Accepted | Plain::Noted(_) | Plain::Stopped(_)) =>
-            Answer::Set,
-        Brief::Got => got(again),
+    match plain {
+        Plain::Opened => Answer::Opened,
+        Plain::Exited => Answer::Exited,
+        Plain::Refused(fault) => Answer::Refused(fault),
+        Plain::Set | Plain::Accepted | Plain::Noted(_) | Plain::Stopped(_) => Answer::Set,
     }
 }
 
@@ -115,7 +91,6 @@ impl WideEngine {
         ensures seats { self.new.seats ≡ self.old.seats }
     {
         let from = self.len();
-        reading.keep(told);
         reading.put(seat, step);
         match self.step_in_place(&mut reading.entry, &[]) {
             Err(why) => Err(why),

@@ -78,9 +78,6 @@ module _ (b c : ObjectTest) (s : Space) where
   either_found true false false m e = e refl
   either_found false q n m e = refl
 
-  wants : Object → Bool
-  wants x = wants_notice s.processes s.references x
-
   stays_if : (p n : Bool) → (not p || n) ≡ true → p ≡ true → n ≡ true
   stays_if true n h e = h
   stays_if false n h e = absurd (cc)

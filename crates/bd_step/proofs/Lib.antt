@@ -10,7 +10,6 @@ pub mod Ending
 pub mod Acting
 pub mod Changing
 pub mod Accepting
-pub mod Folds
 pub mod Owing
 pub mod Spelt
 pub mod TakingItems

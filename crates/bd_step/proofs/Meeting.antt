@@ -1,19 +1,18 @@
 -- A step meets its definition, space by space.
 use Rattle.std.proofs.Common.{ℕ, ◌≡◌, true, Option, Result, Ok, Err, refl, ap, sym, subst, ◌∙◌}
 use Rattle.bd_uapi.specs.declared.fault.Fault.{Fault}
-use Rattle.bd_uapi.specs.declared.fault.Note.{Note}
 use Rattle.bd_uapi.specs.declared.command.Command.{Command as BinderCommand}
 use Rattle.bd_space.specs.declared.step.Parcel.{Parcel}
 use Rattle.bd_space.specs.declared.step.Step.{Step}
 use Rattle.bd_space.specs.declared.step.Step.TheVariants.{Command, Read}
 use Rattle.bd_space.specs.declared.step.StepAnswer.{StepAnswer}
-use Rattle.bd_space.specs.declared.step.StepAnswer.TheVariants.{Noted, Refused}
+use Rattle.bd_space.specs.declared.step.StepAnswer.TheVariants.{Refused}
 use Rattle.bd_space.specs.declared.space.Actor.{Actor}
 use Rattle.bd_space.specs.Space.{Space}
 use Rattle.bd_space.specs.Seats.{actor}
 use Rattle.bd_space.specs.Steps.{by_actor}
 use Rattle.bd_space.specs.Names.{has_number_past_limit}
-use Rattle.bd_space.specs.Outcomes.{Outcome, noted, refused}
+use Rattle.bd_space.specs.Outcomes.{Outcome, refused}
 use Rattle.bd_step.specs.declared.tables.Tables.{Tables}
 use Rattle.bd_step.specs.declared.answer.Plain.{Plain}
 use Rattle.bd_step.specs.declared.answer.Brief.{Brief}
@@ -40,9 +39,6 @@ taken_step old new P f x m = record { ok = m; err = tt; full = tt }
 -- steps that change nothing
 pub is_refused : (t : Tables) (s : Space) (x : Fault) → Before t s → IsOutcome t (Refused x) (refused s x)
 is_refused t s x h = record { answered = refl; stands = within t s h }
-
-pub is_noted : (t : Tables) (s : Space) (n : Note) → Before t s → IsOutcome t (Noted n) (noted s n)
-is_noted t s n h = record { answered = refl; stands = within t s h }
 
 -- what the definition does by cases, in the case that is so
 pub in_case : {B : Type 0} (new : Tables) (answer : StepAnswer) (f : B → Outcome) (x y : B) → x ≡ y → IsOutcome new answer (f y) → IsOutcome new answer (f x)

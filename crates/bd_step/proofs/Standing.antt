@@ -93,9 +93,6 @@ calls_changed t cs s z same h k =
       windows_stand = subst (λ z. WindowsOf t.windows (z.steps + 1) z.processes z.buffers) e h.windows_stand;
     }
 
-pub settled_stands : (t : Tables) (cs : CallTable) (s : Space) → Within t s → calls.StandsFor cs (settle s) → Within (record t { calls = cs }) (settle s)
-settled_stands t cs s h k = calls_changed t cs s (settle s) (settle_rest s) h k
-
 pub closed_up_stands : (t : Tables) (cs : CallTable) (s : Space) (made : Option ℕ) → Within t s → calls.StandsFor cs (close_up (length s.frames) made s)
     → Within (record t { calls = cs }) (close_up (length s.frames) made s)
 closed_up_stands t cs s made h k = calls_changed t cs s _ (up_rest (length s.frames) made s) h k

@@ -214,11 +214,6 @@ unfolding owe
 told_at n t z None kind e h = subst (λ (m : ℕ). StandsAt m t z) e h
 told_at n t z (Some u) kind e h = subst (λ (m : ℕ). StandsAt m t (owe z (OfThread u) kind)) e h
 
--- a frame closes before or after a delivery
-closed_first : (s : Space) (a : Actor) (d : TransactionData) (made : ℕ) (v : Delivery) → closed (delivered s a d v) made ≡ delivered (closed s made) a d v
-unfolding closed delivered with_carried assign_numbers refer make_objects own_notices add_buffer translation
-closed_first s a d made v = refl
-
 pub replied_stands : (t : Tables) (s : Space) (a : Actor) (d : TransactionData) (f : Frame) (v : Delivery)
     → StandsAt ((delivered s a d v).steps + 1) t (tell_caller (owe (closed (delivered s a d v) f.made) (OfThread a.thread.seat) (Complete false)) f (Reply (delivered s a d v).steps))
     → Within t (replied s a d f v)

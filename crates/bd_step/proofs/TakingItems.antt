@@ -1,20 +1,24 @@
 -- A read takes work items one after the other.
-use Rattle.std.proofs.Common.{◌≡◌, ℕ, ◌+◌, ◌-◌, ◌<◌, ◌≤◌, true, false, cond, List, [], ◌∷◌, ◌++◌, drop, length, get_or, map, Option, Some, None, refl, ap, sym, subst, ◌∙◌, append_assoc, length-append, drop-cons, add-one, arith, rules, tests}
+use Rattle.std.proofs.Common.{◌≡◌, ℕ, ◌+◌, ◌-◌, ◌<◌, ◌≤◌, Bool, true, false, not, cond, List, [], ◌∷◌, ◌++◌, drop, length, get_or, map, Option, Some, None, refl, ap, sym, subst, ◌∙◌, append_assoc, length-append, drop-cons, add-one, arith, rules, tests}
 use Rattle.std.specs.Prelude.{nat_lt}
 use Rattle.std.specs.List.{concat, slice_get}
-use Rattle.std.proofs.lemmas.List.{drop_all}
-use Rattle.std.proofs.lemmas.Option.{none-some, slice_get_within, get_or_from_slice_get}
+use Rattle.std.proofs.lemmas.Option.{slice_get_within, get_or_from_slice_get}
 use Rattle.bd_uapi.specs.declared.command.Return.TheVariants.{Noop}
 use Rattle.bd_codec.specs.Spelling.{return_bytes}
 use Rattle.bd_space.specs.declared.space.Work.{Work}
+use Rattle.bd_space.specs.declared.space.Thread.{Thread}
 use Rattle.bd_space.specs.Space.{Space}
+use Rattle.bd_space.specs.Seats.{thread_in}
+use Rattle.bd_space.specs.Todo.{list_to_read, reads_in, is_on}
+use Rattle.bd_space.specs.declared.space.TodoList.TheVariants.{OfThread}
+use Rattle.bd_todo.proofs.OnList.{any_left}
+use Rattle.bd_space.specs.Histories.{is_ready}
 use Rattle.bd_uapi.specs.declared.fault.Fault.{Fault}
 use Rattle.bd_uapi.specs.declared.fault.Fault.TheVariants.{ReadTooSmall, Again}
-use Rattle.bd_space.specs.Words.{first_of, when}
+use Rattle.bd_space.specs.Words.{first_of, when, is_some_and}
 use Rattle.bd_space.specs.Outcomes.{Outcome, refused}
 use Rattle.bd_space.specs.ReadItems.{taken, ends_read, none_due, read_fault, read_taking}
 use Rattle.bd_space.specs.Returns.{bytes_read, stream_of}
-use Rattle.bd_step.proofs.Folds.{past}
 
 -- ---- tests
 
@@ -24,14 +28,15 @@ lt_true m n h = search (rules, tests)
 lt_false : (m n : ℕ) → n ≤ m → nat_lt m n ≡ false
 lt_false m n h = search (rules, tests)
 
--- ---- an empty list
+-- ---- what a thread is to read
 
-pub filled : (ws : List Work) (w : Work) → slice_get ws 0 ≡ Some w → none_due ws ≡ false
-filled [] w e = absurd (none-some w e)
-filled (x ∷ xs) w e = refl
+pub due_by : (s : Space) (t : Thread) (b : Bool) → thread_in s.threads t.seat ≡ Some t → b ≡ is_ready s t.seat → none_due (list_to_read s t) ≡ not b
+due_by s t b at e = let e' : b ≡ not (none_due (list_to_read s t)) = e ∙ ap (λ o. is_some_and o (λ u. not (none_due (list_to_read s u)))) at in grind (arith, e')
 
-pub none_left : {A : Type 0} (ws : List A) (k : ℕ) → slice_get ws k ≡ None → drop k ws ≡ []
-none_left ws k e = drop_all k ws (past ws k e)
+-- a thread reads its own list where something is there
+pub own_due : (s : Space) (t : Thread) (n : ℕ) → reads_in s.frames s.todo t ≡ Some (OfThread n) → none_due (list_to_read s t) ≡ false
+unfolding list_to_read
+own_due s t n e = grind (arith, any_left (is_on (OfThread t.seat)) s.todo, e)
 
 pub one_left : {A : Type 0} (ws : List A) (k : ℕ) (w : A) → slice_get ws k ≡ Some w → drop k ws ≡ w ∷ drop (k + 1) ws
 one_left ws k w e =

@@ -1,17 +1,10 @@
 -- How a read takes work items off a list.
-use Rattle.std.specs.Prelude.{ℕ, ◌≡◌, ◌-◌, List, [], ◌∷◌, Some}
+use Rattle.std.specs.Prelude.{ℕ, ◌≡◌, ◌-◌, List, Some}
 use Rattle.bd_ways.specs.Words.{Thread, TodoList, Work, Space}
 use Rattle.bd_space.specs.Todo.{list_to_read, work_on}
 use Rattle.bd_space.specs.ReadItems.{taken}
 use Rattle.bd_space.specs.Returns.{stream_of}
 use Rattle.bd_laws.specs.Tidy.{IsTidy}
-use Rattle.bd_step.specs.declared.read.Taken.{Taken}
-use Rattle.bd_step.specs.declared.read.Taken.TheVariants.{Nothing, One, Many}
-
-abbrev pub works_in : Taken → List Work
-works_in Nothing = []
-works_in (One w) = w ∷ []
-works_in (Many ws) = ws.items
 
 -- of these work items these are taken, and these are the bytes to be read
 pub record AreTaken (s : Space) (limit : ℕ) (list works : List Work) (stream : List ℕ) : Type 0 where

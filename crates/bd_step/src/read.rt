@@ -1,19 +1,22 @@
 //! The step that reads.
 
-ghost use Rattle.std.specs.Prelude.{◌≡◌, ◌+◌, ◌-◌, ◌*◌, ◌≤◌, ◌++◌, ◌∷◌, [], map, false, None, Some, length, option_map, IfOk, IfSome, OnOk, OnErr, nat_lt};
+ghost use Rattle.std.specs.Prelude.{ℕ, List, ◌≡◌, ◌+◌, ◌-◌, ◌*◌, ◌≤◌, ◌++◌, ◌∷◌, [], map, Some, length, option_map, IfOk, IfSome, OnOk, OnErr, nat_lt};
 ghost use Rattle.std.specs.List.{filter_map};
 ghost use Rattle.bd_uapi.specs.declared.command.Return.TheVariants.{Noop};
 ghost use Rattle.bd_codec.specs.Spelling.{return_bytes};
-ghost use Rattle.bd_space.specs.{Space.{Space}, Words.{first_of}};
+ghost use Rattle.std.specs.Option.{is_none};
+ghost use Rattle.bd_space.specs.{Space.{Space}, Seats.{thread_in}, Words.{first_of}};
 ghost use Rattle.bd_space.specs.Todo as todo;
 ghost use Rattle.bd_space.specs.ReadItems as spec;
+ghost use Rattle.bd_space.specs.declared.step.StepAnswer.TheVariants as gave;
 ghost use Rattle.bd_space.specs.Returns as returns;
+ghost use Rattle.bd_ways.specs.Tables.{TellsWhere};
 ghost use Rattle.bd_buffers.specs.WindowsStand.{made_of_buffer};
 ghost use Rattle.bd_objects.specs.Room.{reference_room};
 ghost use Rattle.bd_calls.specs.Room.{work_room};
 ghost use Rattle.bd_step.specs.Stands.{Before, Within, TellsBefore, TellsWithin, UsesNothing, KeepsTold};
 ghost use Rattle.bd_step.specs.declared.answer.Plain as words;
-ghost use Rattle.bd_step.specs.{Meets.{Meets, IsBy, IsKept, IsStepWritten}, Plain.{IsGot, answer_of}, Taking.{AreTaken, IsReading, works_in}};
+ghost use Rattle.bd_step.specs.{Meets.{Meets, IsBy, IsKept, IsStepWritten}, Plain.{IsGot, answer_of}, Taking.{AreTaken, IsReading}};
 
 use crate::answer::{Brief, Plain, written};
 use crate::keep::Keeps;
@@ -28,54 +31,6 @@ use bd_uapi::Fault;
 use bd_uapi::codes::BR_NOOP;
 use std::alloc::{AllocError, Global};
 use std::mem::replace;
-use std::slice::from_ref;
-
-// Work items, in order. A read mostly takes one, for which no memory is asked.
-#[derive(Drop)]
-enum Taken {
-    Nothing,
-    One(Work),
-    Many(Vec<Work>),
-}
-
-// Both, one after the other.
-fn pair_of(alloc: Global, first: Work, second: Work) -> Result<Vec<Work>, AllocError>
-    ensures { IfOk result (λ works. works.items ≡ first ∷ second ∷ []) }
-{
-    let mut works = Vec::with_capacity(alloc, 2)?;
-    works.push(first)?;
-    works.push(second)?;
-    Ok(works)
-}
-
-impl Taken {
-    fn as_slice(&self) -> &[Work]
-        ensures value { result.now ≡ works_in self.now }
-    {
-        match self {
-            Taken::Nothing => &[],
-            Taken::One(work) => from_ref(work),
-            Taken::Many(works) => works.as_slice(),
-        }
-    }
-
-    fn len(&self) -> usize
-        ensures { result ≡ length (works_in self.now) }
-    {
-        self.as_slice().len()
-    }
-
-    fn push(&mut self, alloc: Global, work: Work) -> Result<(), AllocError>
-        ensures { OnOk result (works_in self.new ≡ works_in self.old ++ work ∷ []) }
-    {
-        match self {
-            Taken::Nothing => *self = Taken::One(work),
-            Taken::One(first) => *self = Taken::Many(pair_of(alloc, *first, work)?),
-            Taken::Many(works) => works.push(work)?,
-        }
-        Ok(())
-    }
-}
 
 // Nothing is read after it.
 fn ends_read(kind: WorkKind) -> bool
@@ -110,20 +65,16 @@ fn notice_of(kind: WorkKind) -> Option<Identity>
 }
 
 // The objects of whose notices these are. Mostly there is none.
-#[inline(always)]
-fn noticed(alloc: Global, works: &Taken) -> Result<Vec<Identity>, AllocError>
-    ensures { IfOk result (λ os. os.items ≡ filter_map (λ w. todo.notice_of w.kind) (works_in works.now)) }
+fn noticed(alloc: Global, works: &[Work]) -> Result<Vec<Identity>, AllocError>
+    ensures { IfOk result (λ os. os.items ≡ filter_map (λ w. todo.notice_of w.kind) works.now) }
 {
-    if let Taken::One(work) = works {
-        if notice_of(work.kind).is_none() {
-            return Ok(Vec::new(alloc));
+    let mut objects = Vec::new(alloc);
+    for work in works {
+        if let Some(o) = notice_of(work.kind) {
+            objects.push(o)?;
         }
     }
-    works
-        .as_slice()
-        .iter()
-        .filter_map(|w| notice_of(w.kind))
-        .collect(alloc)
+    Ok(objects)
 }
 
 // Where the buffer was made.
@@ -136,66 +87,106 @@ fn made_of(buffer: &Option<Lent<'_>>) -> Option<u64>
     }
 }
 
-// Takes the memory of an answer that is given up: of the returns' bytes, the data and the offsets. No bytes are left in it.
+// The memory of these bytes. None is left in it.
 #[inline(always)]
-fn take_memory(alloc: Global, answer: &mut StepAnswer) -> (Vec<u8>, Vec<u8>, Vec<u8>)
-    ensures stream { result.0.items ≡ [] }
-    ensures bytes { result.1.items ≡ [] }
-    ensures offsets { result.2.items ≡ [] }
-{
-    match replace(answer, StepAnswer::Exited) {
-        StepAnswer::Got {
-            stream,
-            bytes,
-            offsets,
-        } => (emptied(stream), emptied(bytes), emptied(offsets)),
-        _ => (Vec::new(alloc), Vec::new(alloc), Vec::new(alloc)),
-    }
-}
-
-#[inline(always)]
-fn emptied(bytes: Bytes) -> Vec<u8>
+fn take_memory(alloc: Global, bytes: &mut Bytes) -> Vec<u8>
     ensures { result.items ≡ [] }
 {
-    let mut memory = bytes.into_vec();
+    let mut memory = replace(bytes, Bytes::new(Vec::new(alloc))).into_vec();
     memory.clear();
     memory
 }
 
-// Puts bytes into this memory. Most offsets are none, and putting none costs as much as putting some.
+// Memory for the returns' bytes: that of the answer before, if it has some.
 #[inline(always)]
-fn put(to: &mut Vec<u8>, bytes: &[u8]) -> Result<(), AllocError>
-    requires { to.old.items ≡ [] }
-    ensures { OnOk result (to.new.items ≡ bytes.now) }
+fn take_stream(alloc: Global, answer: &mut StepAnswer) -> Vec<u8>
+    ensures { result.items ≡ [] }
 {
-    if bytes.is_empty() {
-        return Ok(());
+    match answer {
+        StepAnswer::Got { stream, .. } => take_memory(alloc, stream),
+        _ => Vec::new(alloc),
     }
-    to.extend_from_slice(bytes)
 }
 
-// The answer of a read: the bytes, and copies of the data and offsets that are handed over, in this memory.
+// Whatever was answered before, what is read can be written there.
 #[inline(always)]
-fn got(
-    buffer: Option<Lent<'_>>,
-    stream: Vec<u8>,
-    mut bytes: Vec<u8>,
-    mut offsets: Vec<u8>,
-) -> Result<StepAnswer, AllocError>
-    requires bytes { bytes.items ≡ [] }
-    requires offsets { offsets.items ≡ [] }
-    ensures answer { IfOk result (λ answer. answer ≡ spec.got stream.items buffer.entry) }
-    ensures got { IfOk result (λ answer. IsGot answer) }
+fn make_place(alloc: Global, answer: &mut StepAnswer)
+    ensures { IsGot answer.new }
 {
-    if let Some(b) = buffer {
-        put(&mut bytes, b.bytes())?;
-        put(&mut offsets, b.offsets())?;
+    match answer {
+        StepAnswer::Got { .. } => {}
+        _ => put_place(alloc, answer),
     }
-    Ok(StepAnswer::Got {
-        stream: Bytes::new(stream),
-        bytes: Bytes::new(bytes),
-        offsets: Bytes::new(offsets),
-    })
+}
+
+#[inline(never)]
+fn put_place(alloc: Global, answer: &mut StepAnswer)
+    ensures { IsGot answer.new }
+{
+    *answer = StepAnswer::Got {
+        stream: Bytes::new(Vec::new(alloc)),
+        bytes: Bytes::new(Vec::new(alloc)),
+        offsets: Bytes::new(Vec::new(alloc)),
+    };
+}
+
+// Puts a copy of these bytes there, in the memory that is there. Most offsets are none, and copying none costs as much as copying some.
+#[inline(always)]
+fn put(alloc: Global, to: &mut Bytes, bytes: &[u8]) -> Result<(), AllocError>
+    ensures { OnOk result (to.new ≡ bytes.now) }
+{
+    let mut copy = take_memory(alloc, to);
+    if !bytes.is_empty() {
+        copy.extend_from_slice(bytes)?;
+    }
+    *to = Bytes::new(copy);
+    Ok(())
+}
+
+// Puts copies there of the data and offsets that are handed over.
+#[inline(always)]
+fn put_buffer(
+    alloc: Global,
+    buffer: Option<Lent<'_>>,
+    bytes: &mut Bytes,
+    offsets: &mut Bytes,
+) -> Result<(), AllocError>
+    ensures { OnOk result ((stream : List ℕ) → gave.Got stream bytes.new offsets.new ≡ spec.got stream buffer.entry) }
+{
+    match buffer {
+        Some(b) => {
+            put(alloc, bytes, b.bytes())?;
+            put(alloc, offsets, b.offsets())
+        }
+        None => {
+            put(alloc, bytes, &[])?;
+            put(alloc, offsets, &[])
+        }
+    }
+}
+
+// Writes the answer of a read, in the memory of the answer before: the returns' bytes, and copies of what is handed over.
+#[inline(always)]
+fn write_got(
+    alloc: Global,
+    buffer: Option<Lent<'_>>,
+    returns: Vec<u8>,
+    answer: &mut StepAnswer,
+) -> Result<(), AllocError>
+    ensures answer { OnOk result (answer.new ≡ spec.got returns.items buffer.entry) }
+    ensures got { OnOk result (IsGot answer.new) }
+{
+    make_place(alloc, answer);
+    let StepAnswer::Got {
+        stream,
+        bytes,
+        offsets,
+    } = answer
+    else {
+        unreachable!()
+    };
+    *stream = Bytes::new(returns);
+    put_buffer(alloc, buffer, bytes, offsets)
 }
 
 // What a reading of one work item mostly has: the Noop and the longest return.
@@ -219,21 +210,20 @@ fn is_full(stream: &Vec<u8>, limit: u32) -> bool
 }
 
 impl Tables {
-    // The list that a thread reads, if anything is on it.
+    // The list that a live thread reads, if anything is on it.
     fn list_to_read(&self, thread: &Thread) -> Option<TodoList>
         ensures some { IfSome result
             (λ list. (s : Space) → Before self.now s
             → todo.list_to_read s thread.now ≡ todo.work_on s.todo (Some list)) }
-        ensures filled { IfSome result
-            (λ list. (s : Space) → Before self.now s → spec.none_due (todo.list_to_read s thread.now) ≡ false) }
-        ensures none { result ≡ None → (s : Space) → Before self.now s → todo.list_to_read s thread.now ≡ [] }
+        ensures none { TellsWhere (Before self.now) (λ s. thread_in s.threads thread.now.seat ≡ Some thread.now)
+            (is_none result) (λ s. spec.none_due (todo.list_to_read s thread.now)) }
     {
         match self.calls.reads(thread) {
-            Some(list) => match self.calls.work_at(list, 0) {
-                Some(_) => Some(list),
-                None => None,
-            },
-            None => None,
+            // A thread reads its own list where something is there.
+            Some(TodoList::OfThread(seat)) => Some(TodoList::OfThread(seat)),
+            // What is kept of the seat tells that of its process's list: it isn't looked up for it.
+            Some(list) if self.calls.is_ready(thread.seat) => Some(list),
+            _ => None,
         }
     }
 
@@ -241,14 +231,14 @@ impl Tables {
     fn select_one(
         &self,
         work: Work,
-        works: &mut Taken,
+        works: &mut Vec<Work>,
         stream: &mut Vec<u8>,
     ) -> Result<(), AllocError>
-        ensures works { OnOk result (works_in works.new ≡ works_in works.old ++ work ∷ []) }
+        ensures works { OnOk result (works.new.items ≡ works.old.items ++ work ∷ []) }
         ensures stream { OnOk result
             (TellsBefore self.now stream.new.items (λ s. stream.old.items ++ returns.bytes_read s work)) }
     {
-        works.push(self.alloc, work)?;
+        works.push(work)?;
         self.append_work(work.kind, stream)
     }
 
@@ -258,14 +248,14 @@ impl Tables {
         &self,
         list: TodoList,
         limit: u32,
-        works: &mut Taken,
+        works: &mut Vec<Work>,
         stream: &mut Vec<u8>,
     ) -> Result<(), AllocError>
-        requires none { works_in works.old ≡ [] }
+        requires none { works.old.items ≡ [] }
         requires begun { stream.old.items ≡ return_bytes Noop }
         ensures { OnOk result
             ((s : Space) → Before self.now s
-            → AreTaken s limit (todo.work_on s.todo (Some list)) (works_in works.new) stream.new.items) }
+            → AreTaken s limit (todo.work_on s.todo (Some list)) works.new.items stream.new.items) }
     {
         for work in self.calls.works_on(list) {
             if is_full(stream, limit) {
@@ -340,18 +330,19 @@ impl Tables {
         ensures err { OnErr result (IsKept self.old self.new) }
         ensures told { KeepsTold self.old self.new }
     {
-        let mut works = Taken::Nothing;
-        let (mut stream, bytes, offsets) = take_memory(self.alloc, answer);
+        let mut works = self.take_works();
+        let mut stream = take_stream(self.alloc, answer);
         begin(&mut stream)?;
         self.select(list, limit, &mut works, &mut stream)?;
         let buffer = self.buffer_taken(works.as_slice());
         let made = made_of(&buffer);
-        *answer = got(buffer, stream, bytes, offsets)?;
+        write_got(self.alloc, buffer, stream, answer)?;
         keep.keep(answer)?;
-        let touched = in_order(noticed(self.alloc, &works)?);
+        let touched = in_order(noticed(self.alloc, works.as_slice())?);
         self.reserve_read(works.len(), touched.len())?;
         self.read_by(thread.seat, works.as_slice(), made);
         self.follow_objects(touched.as_slice());
+        self.keep_works(works);
         Ok(())
     }
 

@@ -6,7 +6,7 @@ use bd_buffers::Windows;
 use bd_calls::CallTable;
 use bd_objects::{ObjectTable, Room};
 use bd_processes::ProcessTable;
-use bd_space::Identity;
+use bd_space::{Identity, Work};
 use std::alloc::{AllocError, Global};
 use std::mem::replace;
 
@@ -19,7 +19,7 @@ pub(crate) const NOTHING: Room = Room {
     deaths: 0,
 };
 
-// The room for more objects isn't kept.
+// The room for more isn't kept.
 const KEPT: usize = 1024;
 
 /// The tables of an engine.
@@ -40,6 +40,8 @@ pub struct Tables {
     pub alloc: Global,
     // Room for the objects at which something may follow from a step: kept for the next one.
     touched: Vec<Identity>,
+    // Room for what a read takes, likewise.
+    works: Vec<Work>,
 }
 
 // Written out: one that is derived would be proved again, with that of each table, in every crate that holds tables.
@@ -54,6 +56,7 @@ impl Drop for Tables {
             windows: _,
             alloc: _,
             touched: _,
+            works: _,
         } = self;
     }
 }
@@ -75,6 +78,7 @@ impl Tables {
             windows: Windows::new(alloc),
             alloc,
             touched: Vec::new(alloc),
+            works: Vec::new(alloc),
         }
     }
 
@@ -99,6 +103,30 @@ impl Tables {
     {
         if touched.capacity() <= KEPT {
             self.touched = touched;
+        }
+    }
+
+    /// Room for work items, with none in it.
+    #[inline(always)]
+    pub(crate) fn take_works(&mut self) -> Vec<Work>
+        ensures none { result.items ≡ [] }
+        ensures stands { IsKept self.old self.new }
+        ensures told { KeepsTold self.old self.new }
+    {
+        let none = Vec::new(self.alloc);
+        let mut works = replace(&mut self.works, none);
+        works.clear();
+        works
+    }
+
+    /// Keeps that room, unless it is much.
+    #[inline(always)]
+    pub(crate) fn keep_works(&mut self, works: Vec<Work>)
+        ensures stands { MakesWithin self.old self.new (λ s. s) }
+        ensures told { KeepsTold self.old self.new }
+    {
+        if works.capacity() <= KEPT {
+            self.works = works;
         }
     }
 

@@ -8,6 +8,7 @@ ghost use Rattle.bd_space.specs.Words.{option_to_list, round_up as rounded};
 ghost use Rattle.bd_space.specs.Seats as seats;
 ghost use Rattle.bd_space.specs.{References.{object_in}, Frames.{is_frame}, Freeing.{pointer}};
 ghost use Rattle.bd_space.specs.Returns as spec;
+ghost use Rattle.bd_space.specs.declared.space.WorkKind.TheVariants as kinds;
 ghost use Rattle.bd_space.specs.Steps.{is_pid};
 ghost use Rattle.bd_buffers.specs.WindowsStand.{IsInWindow};
 ghost use Rattle.bd_step.specs.Stands.{TellsBefore};
@@ -139,6 +140,7 @@ impl Tables {
     }
 
     // The record of the buffer made there, if it lives.
+    #[inline(always)]
     fn record_at(&self, made: u64) -> Option<TransactionData>
         ensures { TellsBefore self.now result (λ s. option_map (spec.data_of s) (spec.buffer_in s.buffers made)) }
     {
@@ -146,6 +148,35 @@ impl Tables {
             Some(b) => Some(self.data_of(&b)),
             None => None,
         }
+    }
+
+    // Appends what is read of the buffer made there, if it lives: as a reply, or as a transaction. On its own: else room for its
+    // record is cleared for each work item.
+    #[inline(never)]
+    #[tactic(auto, unfolding(bd_space::specs::Returns::returns_of))]
+    fn append_record(&self, made: u64, is_reply: bool, out: &mut Vec<u8>) -> Result<(), AllocError>
+        ensures { OnOk result
+            (TellsBefore self.now out.new.items
+            (λ s. out.old.items ++ concat (map return_bytes (spec.returns_of s (if is_reply then kinds.Reply made else kinds.Call made))))) }
+    {
+        let record = self.record_at(made);
+        if is_reply {
+            append_one(&record.map(Return::Reply), out)
+        } else {
+            append_one(&record.map(Return::Transaction), out)
+        }
+    }
+
+    // Appends what is read of a death notification, if it is there. On its own, as `append_record`.
+    #[inline(never)]
+    #[tactic(auto, unfolding(bd_space::specs::Returns::returns_of))]
+    fn append_death(&self, made: u64, out: &mut Vec<u8>) -> Result<(), AllocError>
+        ensures { OnOk result
+            (TellsBefore self.now out.new.items
+            (λ s. out.old.items ++ concat (map return_bytes (spec.returns_of s (kinds.Death made))))) }
+    {
+        let death = self.objects.death(made);
+        append_one(&death.map(|x| Return::DeadBinder(x.cookie)), out)
     }
 
     /// Appends the bytes of the returns that a work item gives: up to four for a notice, else one at most.
@@ -160,12 +191,9 @@ impl Tables {
             WorkKind::Complete { spam } => append_one(&Some(completion(spam)), out),
             WorkKind::Refusal(r) => append_one(&Some(r), out),
             WorkKind::Verdict(r) => append_one(&Some(r), out),
-            WorkKind::Call(b) => append_one(&self.record_at(b).map(Return::Transaction), out),
-            WorkKind::Reply(b) => append_one(&self.record_at(b).map(Return::Reply), out),
-            WorkKind::Death(n) => {
-                let death = self.objects.death(n);
-                append_one(&death.map(|x| Return::DeadBinder(x.cookie)), out)
-            }
+            WorkKind::Call(b) => self.append_record(b, false, out),
+            WorkKind::Reply(b) => self.append_record(b, true, out),
+            WorkKind::Death(n) => self.append_death(n, out),
             WorkKind::Cleared(cookie) => append_one(
                 &Some(Return::ClearDeathNotificationDone(cookie)),
                 out,

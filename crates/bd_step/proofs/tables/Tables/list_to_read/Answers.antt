@@ -1,25 +1,26 @@
 use Rattle.std.proofs.Common.{ap, sym, ◌∙◌, Some}
 use Rattle.bd_space.specs.Todo.{list_to_read, work_on}
 use Rattle.bd_space.specs.ReadItems.{none_due}
-use Rattle.bd_step.proofs.TakingItems.{filled, none_left}
+use Rattle.bd_step.proofs.TakingItems.{due_by, own_due}
 use Rattle.bd_step.proofs.tables.Tables.list_to_read.Goals as goal
 
-pub returns-in-Some-work_at-clause-some : goal.returns-in-Some-work_at-clause-some
+pub returns-in-Some-OfThread-clause-some : goal.returns-in-Some-OfThread-clause-some
 unfolding list_to_read
-returns-in-Some-work_at-clause-some c = λ s h. ap (work_on s.todo) (sym (c.reads.ensures s h.calls_stand) ∙ c.in-Some.is)
+returns-in-Some-OfThread-clause-some c = λ s h. ap (work_on s.todo) (sym (c.reads.ensures s h.calls_stand) ∙ c.in-Some-OfThread.is ∙ ap Some c.in-Some-OfThread.field-0-is)
 
-pub returns-in-Some-work_at-clause-filled : goal.returns-in-Some-work_at-clause-filled
-unfolding list_to_read
-returns-in-Some-work_at-clause-filled c = λ s h.
-    ap none_due (ap (work_on s.todo) (sym (c.reads.ensures s h.calls_stand) ∙ c.in-Some.is))
-    ∙ filled (work_on s.todo (Some c.in-Some.list)) _ (sym (c.work_at.ensures s h.calls_stand) ∙ c.in-Some-work_at.is)
+pub returns-in-Some-OfThread-clause-none : goal.returns-in-Some-OfThread-clause-none
+returns-in-Some-OfThread-clause-none c = λ s h at. sym (own_due s c.args.thread.now _ (sym (c.reads.ensures s h.calls_stand) ∙ c.in-Some-OfThread.is ∙ ap Some c.in-Some-OfThread.field-0-is))
 
-pub returns-in-None-work_at-clause-none : goal.returns-in-None-work_at-clause-none
+pub returns-in-Some-clause-some : goal.returns-in-Some-clause-some
 unfolding list_to_read
-returns-in-None-work_at-clause-none c = λ e s h.
-    ap (work_on s.todo) (sym (c.reads.ensures s h.calls_stand) ∙ c.in-Some.is)
-    ∙ none_left (work_on s.todo (Some c.in-Some.list)) 0 (sym (c.work_at.ensures s h.calls_stand) ∙ c.in-None-work_at.is)
+returns-in-Some-clause-some c = λ s h. ap (work_on s.todo) (sym (c.reads.ensures s h.calls_stand) ∙ c.in-Some.is)
 
-pub returns-in-None-clause-none : goal.returns-in-None-clause-none
+pub returns-in-Some-clause-none : goal.returns-in-Some-clause-none
+returns-in-Some-clause-none c = λ s h at. sym (due_by s c.args.thread.now _ at (sym c.if-is_ready.true ∙ c.is_ready.ensures s h.calls_stand))
+
+pub returns-in_default-clause-none : goal.returns-in_default-clause-none
+returns-in_default-clause-none c = λ s h at. sym (due_by s c.args.thread.now _ at (sym c.if-is_ready.false ∙ c.is_ready.ensures s h.calls_stand))
+
+pub returns-in_default-2-clause-none : goal.returns-in_default-2-clause-none
 unfolding list_to_read
-returns-in-None-clause-none c = λ e s h. ap (work_on s.todo) (sym (c.reads.ensures s h.calls_stand) ∙ c.in-None.is)
+returns-in_default-2-clause-none c = λ s h at. sym (ap (λ o. none_due (work_on s.todo o)) (sym (c.reads.ensures s h.calls_stand) ∙ c.in_default.is))

@@ -1,8 +1,10 @@
-use Rattle.std.proofs.Common.{◌-◌, List, sym, ap, subst}
+use Rattle.std.proofs.Common.{◌-◌, ◌∙◌, List, sym, ap, subst}
+use Rattle.std.specs.Option.{is_none}
 use Rattle.bd_uapi.specs.declared.fault.Fault.TheVariants.{ReadTooSmall, Again}
 use Rattle.bd_space.specs.declared.space.Work.{Work}
 use Rattle.bd_space.specs.Todo.{list_to_read}
-use Rattle.bd_space.specs.ReadItems.{read_step, read_taking, none_due, taken}
+use Rattle.bd_space.specs.ReadItems.{read_step, read_taking, taken}
+use Rattle.bd_laws.proofs.Checks.{actor_lives}
 use Rattle.bd_step.specs.Taking.{IsReading}
 use Rattle.bd_step.proofs.Meeting.{IsOutcome, meets, in_case, is_refused, taken_step, written_step}
 use Rattle.bd_step.proofs.TakingItems.{read_outcome, too_small, nothing, readable}
@@ -19,7 +21,7 @@ unfolding read_step
 returns-in_default-clause-step g c = written_step _ _ _ _ _ _ c.requires _ _ c.written-in_default.ensures (taken_step _ _ _ _ _ (meets _ _ _ _ _ (λ s h by.
     let ws = list_to_read s c.args.actor.thread in
     in_case _ _ (read_outcome s c.args.actor.thread.seat c.args.limit ws) _ _
-    (nothing c.args.limit ws c.if-limit-lt72.false (ap none_due (c.list_to_read.ensures.none c.in_default.is s h))) (is_refused _ s Again h))))
+    (nothing c.args.limit ws c.if-limit-lt72.false (sym (c.list_to_read.ensures.none s h (actor_lives s _ c.args.actor by.acts).0) ∙ ap is_none c.in_default.is)) (is_refused _ s Again h))))
 
 pub returns-in-Ok-clause-step : goal.returns-in-Ok-clause-step
 unfolding read_step
@@ -28,7 +30,7 @@ returns-in-Ok-clause-step g c = record {
       let t = c.args.actor.thread in
       let ok = c.in-Ok.ensures.ok in
       let reading : IsReading t c.in-Some.list s = record { tidy = by.tidy; reads = c.in-Some.ensures.some s h } in
-      in_case _ _ (read_outcome s t.seat c.args.limit (list_to_read s t)) _ _ (readable c.args.limit (list_to_read s t) c.if-limit-lt72.false (c.in-Some.ensures.filled s h))
+      in_case _ _ (read_outcome s t.seat c.args.limit (list_to_read s t)) _ _ (readable c.args.limit (list_to_read s t) c.if-limit-lt72.false (sym (c.list_to_read.ensures.none s h (actor_lives s _ c.args.actor by.acts).0) ∙ ap is_none c.in-Some.is))
       (subst (λ (ws : List Work). IsOutcome c.read_list.new.self c.read_list.new.answer (read_taking s t.seat (taken s (c.args.limit - 4) ws))) (sym (c.in-Some.ensures.some s h))
       (record { answered = ok.answered s h reading; stands = ok.stands s h reading })));
   brief = c.in-Ok.ensures.got;

@@ -1,0 +1,8 @@
+use Rattle.std.proofs.Common.{◌≡◌, ◌++◌, drop}
+use Rattle.std.specs.List.{filter_map}
+use Rattle.bd_space.specs.declared.space.Work.{Work}
+use Rattle.bd_space.specs.Todo.{notice_of}
+use Rattle.bd_step.proofs.read.noticed.Given as goal
+
+abbrev pub invariant-loop-work : goal.invariant-loop-work
+invariant-loop-work l = l.objects.items ++ filter_map (λ (w : Work). notice_of w.kind) (drop l.work-index l.works) ≡ filter_map (λ (w : Work). notice_of w.kind) l.works
