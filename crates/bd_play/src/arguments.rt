@@ -1,7 +1,7 @@
 //! The program's words.
 
-ghost use Rattle.std.specs.Prelude.{◌<◌, length, IfSome, IsOkAnd};
-ghost use Rattle.clap.specs.Matches.{found_of};
+ghost use Rattle.std.specs.Prelude.{◌<◌, ◌≢◌, length, codes, IfSome, IsOkAnd, IsSome, None};
+ghost use Rattle.clap.specs.Matches.{first_value, found_of};
 ghost use Rattle.bd_play.specs.Orders.{IsManner, PlaysFound, PlaysInput};
 
 use crate::commands::Making;
@@ -213,7 +213,8 @@ fn manner_in(matches: &ArgMatches<'_>) -> Manner
 
 // To play the script that was found.
 fn run_order<'a>(matches: &ArgMatches<'a>) -> Option<Order<'a>>
-    ensures { IfSome result (PlaysFound (found_of matches.now)) }
+    ensures plays { IfSome result (PlaysFound (found_of matches.now)) }
+    ensures found { first_value (found_of matches.now) (codes "file") ≢ None → IsSome result }
 {
     Some(Order::Run(Run {
         file: matches.get_str("file")?,

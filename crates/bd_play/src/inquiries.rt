@@ -1,8 +1,8 @@
 //! The words of questions about a journal.
 
-ghost use Rattle.std.specs.Prelude.{IfSome};
-ghost use Rattle.clap.specs.Matches.{found_of};
-ghost use Rattle.bd_play.specs.Inquiries.{AsksFound, AskedBy, IsNumberAt, IsSourceFound};
+ghost use Rattle.std.specs.Prelude.{◌≢◌, IfSome, IsSome, None, codes};
+ghost use Rattle.clap.specs.Matches.{first_value, found_of};
+ghost use Rattle.bd_play.specs.Inquiries.{AsksBy, AsksFound, AskedBy, AsksTurns, HasChain, HasNumber, HasQuestion, IsNumberAt, IsObject, IsSourceFound};
 
 use crate::commands::Making;
 use crate::sources::Source;
@@ -127,7 +127,10 @@ pub fn with_inquiries<'a>(alloc: Global, command: Making<'a>) -> Making<'a> {
 }
 
 // The one-way calls on the object that a text names.
-fn turns_on(text: &str) -> Option<Question> {
+fn turns_on(text: &str) -> Option<Question>
+    ensures asks { IfSome result (AsksTurns text.now) }
+    ensures found { IsObject text.now → IsSome result }
+{
     let (place, index) = text.split_once('.')?;
     Some(Question::Turns {
         place: place.parse::<u32>().ok()?,
@@ -137,14 +140,16 @@ fn turns_on(text: &str) -> Option<Question> {
 
 // The number that was given by a name, if one was.
 fn number_in(matches: &ArgMatches<'_>, name: &str) -> Option<u32>
-    ensures { IfSome result (IsNumberAt (found_of matches.now) name.now) }
+    ensures number { IfSome result (IsNumberAt (found_of matches.now) name.now) }
+    ensures found { HasNumber (found_of matches.now) name.now → IsSome result }
 {
     matches.get_one::<u32>(name)
 }
 
 // How the process with the pid that was found came to the handle that was found.
 fn chain_in(matches: &ArgMatches<'_>) -> Option<Question>
-    ensures { IfSome result (AskedBy (found_of matches.now)) }
+    ensures asks { IfSome result (AskedBy (found_of matches.now)) }
+    ensures found { HasChain (found_of matches.now) → IsSome result }
 {
     Some(Question::Chain {
         pid: number_in(matches, "pid")?,
@@ -153,7 +158,10 @@ fn chain_in(matches: &ArgMatches<'_>) -> Option<Question>
 }
 
 // What is asked by the command of this name, if it is one of a question.
-fn question_in(name: &str, matches: &ArgMatches<'_>) -> Option<Question> {
+fn question_in(name: &str, matches: &ArgMatches<'_>) -> Option<Question>
+    ensures asks { IfSome result (AsksBy name.now (found_of matches.now)) }
+    ensures found { HasQuestion name.now (found_of matches.now) → IsSome result }
+{
     match name {
         "chain" => chain_in(matches),
         "call-of-reply" => Some(Question::CallOfReply {
@@ -166,7 +174,8 @@ fn question_in(name: &str, matches: &ArgMatches<'_>) -> Option<Question> {
 
 /// The journal that was found.
 pub fn source_in<'a>(matches: &ArgMatches<'a>) -> Option<Source<'a>>
-    ensures { IfSome result (IsSourceFound (found_of matches.now)) }
+    ensures source { IfSome result (IsSourceFound (found_of matches.now)) }
+    ensures found { first_value (found_of matches.now) (codes "file") ≢ None → IsSome result }
 {
     Some(Source {
         file: matches.get_str("file")?,
@@ -176,7 +185,9 @@ pub fn source_in<'a>(matches: &ArgMatches<'a>) -> Option<Source<'a>>
 
 /// The question that was found, and its journal.
 pub fn inquiry_in<'a>(name: &str, matches: &ArgMatches<'a>) -> Option<Inquiry<'a>>
-    ensures { IfSome result (AsksFound (found_of matches.now)) }
+    ensures source { IfSome result (AsksFound (found_of matches.now)) }
+    ensures asks { IfSome result (λ i. AsksBy name.now (found_of matches.now) i.question) }
+    ensures found { first_value (found_of matches.now) (codes "file") ≢ None → HasQuestion name.now (found_of matches.now) → IsSome result }
 {
     Some(Inquiry {
         source: source_in(matches)?,

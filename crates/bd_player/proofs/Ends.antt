@@ -1,5 +1,5 @@
 -- Seats after lines: each is still there, so that the history is whole.
-use Rattle.std.proofs.Common.{◌≡◌, ◌≢◌, ◌⊎◌, inl, inr, ⊎_elim, ℕ, zero, suc, ◌+◌, ◌<◌, ◌≤◌, Bool, true, false, List, [], ◌∷◌, ◌++◌, length, get_or, set, take, drop, refl, sym, ◌∙◌, ap, subst, arith}
+use Rattle.std.proofs.Common.{◌≡◌, ◌≢◌, ◌⊎◌, inl, inr, ⊎_elim, ℕ, zero, suc, ◌+◌, ◌<◌, ◌≤◌, Bool, true, false, List, [], ◌∷◌, ◌++◌, length, get_or, set, take, drop, Option, IfSome, Ok, refl, sym, ◌∙◌, ap, subst, arith}
 use mathlib.Core.Option.{some, some-ne-none, some-injective}
 use mathlib.Core.Logic.{dite}
 use native.Mathlib.Decide.{ℕ_discrete}
@@ -18,13 +18,14 @@ use Rattle.bd_driver.specs.declared.view.View.{View}
 use Rattle.bd_driver.specs.declared.outcome.Outcome.{Outcome}
 use Rattle.bd_driver.specs.declared.outcome.Outcome.TheVariants as outcome
 use Rattle.bd_driver.specs.declared.outcome.Why.TheVariants as why
+use Rattle.bd_script.specs.Scripts.{Read, script_of}
 use Rattle.bd_script.specs.declared.script.Line.{Line}
 use Rattle.bd_script.specs.declared.script.Verb.{Verb}
 use Rattle.bd_script.specs.declared.script.Verb.TheVariants as verb
 use Rattle.bd_player.specs.declared.said.Said.{Said}
 use Rattle.bd_player.specs.declared.said.Said.TheVariants as said
 use Rattle.bd_player.specs.Workers.{Acts, SaysCall, SaysAwait, idles}
-use Rattle.bd_player.specs.Playing.{Play, Does, Runs, RunsLine, Plays, playing}
+use Rattle.bd_player.specs.Playing.{Play, Does, Runs, RunsLine, Plays, IsPlayed, playing}
 use Rattle.bd_driver.specs.Rest.{is_waiting}
 
 abbrev pub whos : List SeatState → List ℕ
@@ -124,14 +125,37 @@ all_kept t n old new dealt same = λ who below.
     (h.0, k.0, k.1, k.2 ∙ h.3)
 
 -- what finish says of the seats that lines were run with
-pub whole : {S : Type 0} (seats turns : ℕ) (takes : S → ℕ → Said → S → Type 0) (full : S → Bool) (lines : List Line) (lent old new : List SeatState) (s u : S) (t : TableId) (len : ℕ) (r : Record)
+finished : {S : Type 0} (seats turns : ℕ) (takes : S → ℕ → Said → S → Type 0) (full : S → Bool) (lines : List Line) (lent old new : List SeatState) (s u : S) (t : TableId) (len : ℕ) (r : Record)
     → Plays seats turns takes full lines lent s new u → lent ≡ old → old ≡ new_seats t seats 0 seats → length new ≡ length old → len ≡ length old
     → (AllSeats seats (take len (new ++ drop (length new) old)) → IsFinal seats (take len (new ++ drop (length new) old)) r.seats r.entries)
-    → IsHistory (history_in r)
-whole seats turns takes full lines lent old new s u t len r plays is dealt same count final =
+    → IsFinal seats new r.seats r.entries
+finished seats turns takes full lines lent old new s u t len r plays is dealt same count final =
     let nothing : drop (length new) old ≡ [] = drop_all (length new) old (omega (arith, same)) in
     let joined : new ++ drop (length new) old ≡ new = ap (λ (ys : List SeatState). new ++ ys) nothing ∙ append-nil new in
     let back : take len (new ++ drop (length new) old) ≡ new = ap (take len) joined ∙ take_all len new (omega (arith, same, count)) in
     let all : AllSeats seats new = all_kept t seats old new dealt (lines_same seats turns takes full plays.run (playing lent [] s) (playing new plays.told u) plays.runs ∙ ap whos is) in
-    let ends : IsFinal seats (take len (new ++ drop (length new) old)) r.seats r.entries = final (subst (AllSeats seats) (sym back) all) in
-    subst (λ (n : ℕ). IsHistory (record { seats = n; entries = r.entries })) (sym ends.seats_are) ends.lawful
+    subst (λ (ys : List SeatState). IsFinal seats ys r.seats r.entries) back (final (subst (AllSeats seats) (sym back) all))
+
+pub lawful : (seats : ℕ) (states : List SeatState) (r : Record) → IsFinal seats states r.seats r.entries → IsHistory (history_in r)
+lawful seats states r ends = subst (λ (n : ℕ). IsHistory (record { seats = n; entries = r.entries })) (sym ends.seats_are) ends.lawful
+
+-- a script's lines that were played, and what finish says of the seats
+pub played : {S : Type 0} (known : Option (List ℕ)) (script : Read) (turns : ℕ) (takes : S → ℕ → Said → S → Type 0) (full : S → Bool) (lent old new : List SeatState) (s u : S) (t : TableId) (len n : ℕ) (r : Record)
+    → IfSome known (λ bytes. script_of bytes ≡ Ok script) → n ≡ script.seats
+    → Plays n turns takes full script.lines lent s new u → lent ≡ old → old ≡ new_seats t n 0 n → length new ≡ length old → len ≡ length old
+    → (AllSeats n (take len (new ++ drop (length new) old)) → IsFinal n (take len (new ++ drop (length new) old)) r.seats r.entries)
+    → IsPlayed known turns takes full s u r
+played {S} known script turns takes full lent old new s u t len n r says many plays is dealt same count final =
+    let ends : IsFinal n new r.seats r.entries = finished n turns takes full script.lines lent old new s u t len r plays is dealt same count final in
+    let from : Plays n turns takes full script.lines (new_seats t n 0 n) s new u = subst (λ (xs : List SeatState). Plays n turns takes full script.lines xs s new u) (is ∙ dealt) plays in
+    record {
+      script = script;
+      table = t;
+      seats = new;
+      says = says;
+      plays = subst (λ (k : ℕ). Plays k turns takes full script.lines (new_seats t k 0 k) s new u) many from;
+      final = subst (λ (k : ℕ). IsFinal k new r.seats r.entries) many ends;
+    }
+
+pub played_lawful : {S : Type 0} (known : Option (List ℕ)) (turns : ℕ) (takes : S → ℕ → Said → S → Type 0) (full : S → Bool) (s u : S) (r : Record) → IsPlayed known turns takes full s u r → IsHistory (history_in r)
+played_lawful known turns takes full s u r h = lawful h.script.seats h.seats r h.final

@@ -8,3 +8,4 @@ pub mod Streams
 pub mod Begun
 pub mod Unread
 pub mod Piles
+pub mod Printed

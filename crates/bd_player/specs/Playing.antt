@@ -1,11 +1,14 @@
 -- Lines played: what each does to its seat, and a sink that takes what they say.
-use Rattle.std.specs.Prelude.{◌≡◌, ◌⊎◌, ⊤, ℕ, ◌<◌, ◌≤◌, Bool, true, false, List, [], ◌∷◌, ◌++◌, length, get_or, set, Option, IfSome, Err}
-use Rattle.bd_script.specs.Scripts.{script_of}
+use Rattle.std.specs.Prelude.{◌≡◌, ◌⊎◌, ⊤, ℕ, ◌<◌, ◌≤◌, Bool, true, false, List, [], ◌∷◌, ◌++◌, length, get_or, set, Option, IfSome, Ok, Err}
+use Rattle.atomic_table.specs.Seated.{TableId}
+use Rattle.bd_spelling.specs.declared.record.Record.{Record}
+use Rattle.bd_script.specs.Scripts.{Read, script_of}
 use Rattle.bd_player.specs.declared.faults.ProgramFault.{ProgramFault}
 use Rattle.bd_player.specs.declared.faults.ProgramFault.TheVariants.{Line as Bad-Line}
 use Rattle.std.specs.List.{FoldsTo}
 use Rattle.bd_driver.specs.Rest.{is_waiting}
 use Rattle.bd_driver.specs.States.{SeatState}
+use Rattle.bd_driver.specs.Together.{IsFinal, new_seats}
 use Rattle.bd_driver.specs.declared.view.View.{View}
 use Rattle.bd_script.specs.declared.script.Line.{Line}
 use Rattle.bd_script.specs.declared.script.Verb.{Verb}
@@ -70,6 +73,15 @@ pub record Plays {S : Type 0} (seats turns : ℕ) (takes : S → ℕ → Said �
   pub all : lines ≡ run ++ rest
   pub runs : FoldsTo (Runs seats turns takes full) (playing old [] s) run (playing new told t)
   pub ends : GoesOn full (playing new told t) → rest ≡ []
+
+-- the record is of the script's lines, which were played from new seats, and the sink became the other one
+pub record IsPlayed {S : Type 0} (known : Option (List ℕ)) (turns : ℕ) (takes : S → ℕ → Said → S → Type 0) (full : S → Bool) (s t : S) (r : Record) : Type 0 where
+  pub script : Read
+  pub table : TableId
+  pub seats : List SeatState
+  pub says : IfSome known (λ bytes. script_of bytes ≡ Ok script)
+  pub plays : Plays script.seats turns takes full script.lines (new_seats table script.seats 0 script.seats) s seats t
+  pub final : IsFinal script.seats seats r.seats r.entries
 
 -- Where the fault is that a line is bad, and the bytes are known, it is their first bad line.
 abbrev pub SaysBadLine : Option (List ℕ) → ProgramFault → Type 0

@@ -6,7 +6,8 @@ ghost use Rattle.bd_space.specs.Histories.{IsHistory};
 ghost use Rattle.bd_spelling.specs.Records.{history_in};
 ghost use Rattle.bd_driver.specs.Together.{new_seats};
 ghost use Rattle.bd_script.specs.Scripts.{read, script_of};
-ghost use Rattle.bd_player.specs.{Playing.{Plays, RunsOn, SaysBadLine}, Workers.{fault_status}};
+ghost use Rattle.bd_player.specs.{Playing.{IsPlayed, Plays, RunsOn, SaysBadLine}, Printing.{IsPrinted}, Workers.{fault_status}};
+ghost use Rattle.bd_player.specs.declared.faults.ProgramFault.{ProgramFault};
 ghost use Rattle.bd_player.specs.declared.faults.ProgramFault.TheVariants.{File, Journal, Memory};
 
 use crate::faults::{DONE, ProgramFault, tell};
@@ -165,6 +166,9 @@ pub fn play_into<R: Read, S: Sink>(
     turns: u32,
     sink: &mut S,
 ) -> Result<Record, ProgramFault>
+    // The script's lines are played from new seats, and the history is what those did.
+    ensures plays { S.is_full sink.old ≡ false
+        → IfOk result (IsPlayed (R.remaining script.old) turns S.takes S.is_full sink.old sink.new) }
     // What is handed on as the history of the run is one.
     ensures history { S.is_full sink.old ≡ false → IfOk result (λ r. IsHistory (history_in r)) }
 {
@@ -184,6 +188,10 @@ pub fn play<R: Read, W: Write, E: Write>(
     out: &mut W,
     err: &mut E,
 ) -> Played
+    // The history is that of the script's lines, and the status what printing them came to.
+    ensures plays { IfSome result.history (IsPrinted (R.remaining script.old) turns result.status) }
+    // Without one a fault is told.
+    ensures fault { result.history ≡ None → (fault : ProgramFault) × (result.status ≡ fault_status fault) }
     // What is handed on as the history of the run is one.
     ensures history { IfSome result.history (λ r. IsHistory (history_in r)) }
 {

@@ -1,10 +1,11 @@
 //! Playing a script with a thread for each seat.
 
-ghost use Rattle.std.specs.Prelude.{◌≡◌, ◌≤◌, ◌⊎◌, ◌++◌, [], ◌∷◌, true, map, All, IfOk, IfSome, OnOk};
+ghost use Rattle.std.specs.Prelude.{◌≡◌, ◌≤◌, ◌⊎◌, ◌++◌, [], ◌∷◌, true, map, All, IfOk, IfSome, None, OnOk};
 ghost use Rattle.atomic_table.specs.Seated.{TableId};
 ghost use Rattle.bd_space.specs.Histories.{IsHistory};
 ghost use Rattle.bd_spelling.specs.Records.{history_in};
 ghost use Rattle.bd_player.specs.Piles.{ArePiles, IsPut};
+ghost use Rattle.bd_player.specs.{Workers.{fault_status}, declared.faults.ProgramFault.{ProgramFault}};
 
 use crate::faults::{DONE, ProgramFault, tell};
 use crate::playing::{Played, laid, play_lines};
@@ -282,6 +283,8 @@ pub fn play_threads<H: Threads + Wait + Sync, R: Read, W: Write, E: Write>(
     out: &mut W,
     err: &mut E,
 ) -> Played
+    // Without a history a fault is told.
+    ensures fault { result.history ≡ None → (fault : ProgramFault) × (result.status ≡ fault_status fault) }
     // What is handed on as the history of the run is one, whichever seats came back.
     ensures history { IfSome result.history (λ r. IsHistory (history_in r)) }
 {
