@@ -77,10 +77,18 @@ const LINES: [&str; 5] = [
 ];
 
 fn filled(name: &str) -> Ring {
-    let mut ring = Ring::new(name, 64);
+    filled_of(name, 64)
+}
+
+/// The same of so many slots.
+fn filled_of(name: &str, slots: u32) -> Ring {
+    let mut ring = Ring::new(name, slots);
     steps().iter().for_each(|it| ring.put(it));
     ring
 }
+
+/// As many as `busy` fills in a minute, so that whoever comes late, on a machine that does much else, still finds the first.
+const ROOMY: u32 = 1 << 15;
 
 #[test]
 fn calls_are_told_a_line_each() {
@@ -391,16 +399,21 @@ fn busy(ring: &mut Ring, mut is_over: impl FnMut() -> bool) {
     let until = Instant::now() + Duration::from_secs(60);
     while !is_over() {
         assert!(Instant::now() < until, "nobody has seen enough");
-        let object = ring.count - 1;
-        registration(object).iter().for_each(|it| ring.put(it));
+        register(ring);
         sleep(Duration::from_millis(10));
     }
 }
 
+fn register(ring: &mut Ring) {
+    registration(ring.count - 1).iter().for_each(|it| ring.put(it));
+}
+
 #[test]
 fn one_screen_is_printed() {
-    let mut ring = filled("once");
+    let mut ring = filled_of("once", ROOMY);
     let socket = daemon("once", &ring, 0);
+    // Much has happened by the time that it looks.
+    (0..50).for_each(|_| register(&mut ring));
     let mut child = program();
     child.args(["top", "--once", "--interval", "0.5", "--socket", socket.path()]).stdout(Stdio::piped());
     let mut child = child.spawn().expect("the program");
@@ -442,7 +455,7 @@ fn tmux(test: &str, words: &[&str]) -> String {
 
 /// What `top` draws on a terminal of such a size, once a call is there; then it is ended by a key.
 fn drawn(test: &str, columns: u32, shows: &str) -> String {
-    let mut ring = filled(test);
+    let mut ring = filled_of(test, ROOMY);
     let socket = daemon(test, &ring, 0);
     let command = format!("{} top --interval 0.3 --socket {}", env!("CARGO_BIN_EXE_hullpippin"), socket.path());
     let size = columns.to_string();
