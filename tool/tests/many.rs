@@ -71,13 +71,14 @@ fn each_journal_of_a_folder_has_its_verdict() {
 
 /// What parallel takes for ssh: it enters the network namespace of that name, and runs there what ssh would. A login has a shell by name,
 /// which parallel leans on: where SHELL is unset, as under a service, it runs nothing and says that all went well.
+/// `ip netns exec` would mount /sys anew, which it can't in a root that is no mount point, as in a chroot.
 const SSH: &str = "#!/bin/sh
 while case $1 in -*) true ;; *) false ;; esac; do shift; done
 host=$1
 shift
 [ \"$1\" != -- ] || shift
 export SHELL=/bin/sh
-exec ip netns exec \"$host\" sh -c \"$*\"
+exec nsenter --net=/run/netns/\"$host\" sh -c \"$*\"
 ";
 
 fn ip(words: &[&str]) -> bool {
