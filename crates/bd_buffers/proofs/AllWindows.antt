@@ -6,9 +6,7 @@ use Rattle.bd_buffers.proofs.Words.{window_of, with_buffers, ℕ, [], ◌++◌, 
 use Rattle.bd_buffers.proofs.{InSpace.{added, added_elsewhere, buffer_made, found_kept, home_finds, not_yet, others_stay, process_gone, process_made}, Made.{kept_some, none_left, same_keys}, Standing.{all_of, filtered_of, found_of}}
 use Rattle.std.proofs.Math.ListN as list
 
--- ---- by whose they are: owners rise
-
--- ---- where one stands
+-- ---- where one stands, by whose it is
 
 pub look_copied : {A : Type 0} (o : Option (Bor A)) (xs : List A) (i : ℕ) → is_some o ≡ ltb i (length xs) → IfSome o (λ x. x.now ≡ get_or xs i x.now) → option_copied o ≡ slice_get xs i
 look_copied o xs i e at = grind (arith, slice_get_past, ltb-false, slice_get_read, ltb-true)

@@ -54,7 +54,7 @@ pub others_stay : (buffers : List Buffer) (p q : ℕ) → q ≢ p → buffers_of
 others_stay buffers p q other =
     filter_kept (is_in q) (λ b. not (is_in p b)) (λ b e. ap not (ne_eqb b.receiver p (λ same. other (sym (eqb-true b.receiver q e) ∙ same)))) buffers
 
--- ---- in the order in which they were made
+-- ---- who lives, and all in the order in which they were made
 
 lives_more : (ps : List Process) (q : Process) (r : ℕ) → lives_in ps r ≡ true → lives_in (ps ++ q ∷ []) r ≡ true
 lives_more ps q r e = list_any-append (λ (x : Process). x.made == r) ps (q ∷ []) ∙ ap (λ b. b || lives_in (q ∷ []) r) e

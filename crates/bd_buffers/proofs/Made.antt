@@ -1,10 +1,8 @@
--- Where a search by a key that rises ends, and what is found where elements come or go.
+-- Lists with some elements changed or left out, where a search by a key that rises ends, and what is found where elements come or go.
 use Rattle.bd_buffers.proofs.Words.{All, All-cons, All-head, All-tail, AllPairs, Bool, Distinct, Err, IsBinarySearchResult, IsNonDecreasingBy, IsPartitionPoint, IsPartitionedBy, IsPartitionedBy-ltb, IsSearchInRange, IsWithout, List, MatchOption, Ok, OnErr, OnOk, Option, Result, Rising, Some, ap, arith, changed}
 use Rattle.bd_buffers.proofs.Words.{cond, distinct, eqb-true, false, filter, filter_none, find, find_at, find_none, get_or, get_or-map, kept, length, length-map, ltb, ltb-false, ltb-true, map, nat_cmp, not, pairs_head, pairs_tail, refl, rest_differ, result_ok, slice_get, slice_get-get_or, suc, sym, true, ℕ, []}
 use Rattle.bd_buffers.proofs.Words.{◌<◌, ◌==◌, ◌∙◌, ◌∷◌, ◌≡◌, ◌≤◌}
 use Rattle.bd_keys.proofs.Rising.{searched as by_halves}
-
--- ---- some elements changed or left out
 
 -- what each element keeps where those that pass are changed
 pub All_changed : {A : Type 0} (p : A → Bool) (f : A → A) (P : A → Type 0) → ((x : A) → P x → P (f x)) → (xs : List A) → All P xs → All P (changed p f xs)
