@@ -12,7 +12,8 @@ use Rattle.bd_keys.proofs.Rising.{rest_differ}
 use Rattle.bd_deaths.specs.{declared.key.NameKey.{NameKey}, declared.kept.Kept.{Kept}, declared.kept.Watch.{Watch}, declared.kept.Mark.{Mark}, declared.table.DeathTable.{DeathTable}}
 use Rattle.bd_deaths.specs.Entries.{Entry, EntriesAre, Apart, Fits, ObjectsShow, ProcessesShow, death_of, made_of, at_of, kept_of, object_row, process_row, asks_on, kept_at, place_at, name_at}
 use Rattle.bd_keys.specs.Look.{word_room}
-use Rattle.bd_deaths.specs.{Stands.{DeathsAre}, Shared.{AreShared}}
+use Rattle.bd_deaths.specs.{Stands.{DeathsAre}, Shared.{AreShared}, Held.{AreHeld}, Tolds.{number_count}, Numbers.{number_of}}
+use Rattle.bd_space.specs.Deaths.{is_told}
 use Rattle.bd_space.specs.Deaths.{uncleared_in, is_uncleared_on}
 use Rattle.bd_deaths.specs.Entries.{name_of, same_name}
 use Rattle.std.specs.Prelude.{get_or, min, ◌-◌}
@@ -139,12 +140,13 @@ entries_kept t u es objects processes slots places names next h = record {
 
 pub deaths_kept : (t u : DeathTable) (l : List DeathNotification) → ((rs : List (Row Watch)) → ObjectsShow t rs → ObjectsShow u rs) → ((rs : List (Row Mark)) → ProcessesShow t rs → ProcessesShow u rs)
     → ((k : ℕ) → kept_at u k ≡ kept_at t k) → ((m : ℕ) → place_at u m ≡ place_at t m) → ((k : NameKey) → name_at u k ≡ name_at t k) → u.next ≡ t.next → (AreShared t.cookies l → AreShared u.cookies l)
-    → DeathsAre t l → DeathsAre u l
-deaths_kept t u l objects processes slots places names next shared h = record {
+    → ((es : List Entry) → EntriesAre t es → AreHeld t.tolds es → AreHeld u.tolds es) → DeathsAre t l → DeathsAre u l
+deaths_kept t u l objects processes slots places names next shared held h = record {
   entries = h.entries;
   are = entries_kept t u h.entries objects processes slots places names next h.are;
   deaths_are = h.deaths_are;
   shared = shared h.shared;
+  held = held h.entries h.are h.held;
 }
 
 -- ---- one goes
@@ -153,8 +155,8 @@ pub deaths_removed : (t u : DeathTable) (made at : ℕ) (kept : Kept) (l : List 
     → ((rs : List (Row Watch)) → ObjectsShow t rs → ObjectsShow u (drop_key kept.object rs)) → ((rs : List (Row Mark)) → ProcessesShow t rs → ProcessesShow u (drop_key kept.process rs))
     → ((k : ℕ) → kept_at u k ≡ cond (at == k) None (kept_at t k)) → ((m : ℕ) → place_at u m ≡ cond (made == m) None (place_at t m))
     → ((k : NameKey) → name_at u k ≡ cond (asks_on k kept.death) None (name_at t k)) → u.next ≡ t.next
-    → AreShared u.cookies (filter (λ x. not (is_notification made x)) l) → DeathsAre t l → DeathsAre u (filter (λ x. not (is_notification made x)) l)
-deaths_removed t u made at kept l place there objects processes slots places names next shared h =
+    → AreShared u.cookies (filter (λ x. not (is_notification made x)) l) → u.tolds ≡ t.tolds → DeathsAre t l → DeathsAre u (filter (λ x. not (is_notification made x)) l)
+deaths_removed t u made at kept l place there objects processes slots places names next shared tolds h =
     let es = h.entries in
     let f = found t es (has made_of made) at h.are (sym (h.are.places_are made) ∙ place) in
     let e = f.entry in
@@ -179,6 +181,7 @@ deaths_removed t u made at kept l place there objects processes slots places nam
       };
       deaths_are = filter_map death_of (λ x. not (x.made == made)) es ∙ ap (filter (λ x. not (x.made == made))) h.deaths_are;
       shared = shared;
+      held = subst (λ d. AreHeld d (without made_of made es)) (sym tolds) (λ w. All-filter (λ e. not (has made_of made e)) (λ e. is_told e.kept.death.phase ≡ true → 0 < number_count t.tolds (number_of e.kept e.at)) es (h.held w));
     }
   where
     some_is : {a b : Kept} → Some a ≡ Some b → a ≡ b
@@ -251,8 +254,9 @@ module _ (t : DeathTable) (x : DeathNotification) (at object process : ℕ) (l :
       → ((rs : List (Row Mark)) → ProcessesShow t rs → (n : ℕ) × ProcessesShow u (rs ++ record { key = process; list = n; held = record { value = record { process = x.process; made = x.made; at = at }; counted = false } } ∷ []))
       → ((k : ℕ) → kept_at u k ≡ cond (at == k) (Some kept) (kept_at t k)) → ((m : ℕ) → place_at u m ≡ cond (x.made == m) (Some at) (place_at t m))
       → ((k : NameKey) → name_at u k ≡ cond (same_name (name_of x) k) (Some at) (name_at t k)) → u.next ≡ t.next + 1
-      → AreShared u.cookies (l ++ x ∷ []) → DeathsAre u (l ++ x ∷ [])
-  deaths_pushed u objects processes slots places names next shared =
+      → AreShared u.cookies (l ++ x ∷ []) → (u.tolds.whole ≡ true → t.tolds.whole ≡ true) → ((n : ℕ) → 0 < number_count t.tolds n → 0 < number_count u.tolds n)
+      → (u.tolds.whole ≡ true → is_told x.phase ≡ true → 0 < number_count u.tolds (number_of kept at)) → DeathsAre u (l ++ x ∷ [])
+  deaths_pushed u objects processes slots places names next shared whole more itself =
       let o = objects (map object_row es) h.are.on_objects in
       let p = processes (map process_row es) h.are.of_processes in
       let e : Entry = record { kept = kept; at = at; object = o.0; process = p.0 } in
@@ -276,6 +280,7 @@ module _ (t : DeathTable) (x : DeathNotification) (at object process : ℕ) (l :
         };
         deaths_are = map-append death_of es (e ∷ []) ∙ ap (λ xs. xs ++ x ∷ []) h.deaths_are;
         shared = shared;
+        held = λ w. All-push (λ e. is_told e.kept.death.phase ≡ true → 0 < number_count u.tolds (number_of e.kept e.at)) es e (λ k d lt told. more _ (h.held (whole w) k d lt told)) (itself w);
       }
 
 -- ---- what is found

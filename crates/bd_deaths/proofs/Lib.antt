@@ -1,4 +1,5 @@
 pub mod Indexed
+pub mod Heaps
 pub mod Sharing
 pub mod Changes
 pub mod Ending
@@ -7,5 +8,6 @@ pub mod Tests
 pub mod Queueing
 pub mod Looking
 pub mod Numbering
+pub mod Held
 pub mod Only
 pub mod Telling

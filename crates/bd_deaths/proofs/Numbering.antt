@@ -206,7 +206,7 @@ has_once ns n = both (has (dedup eqb ns) n) (has ns n)
 
 -- ---- and back to the notifications
 
-slot_of : (s a : ℕ) → a < 2 ^ 64 → (s * 2 ^ 64 + a) % 2 ^ 64 ≡ a
+pub slot_of : (s a : ℕ) → a < 2 ^ 64 → (s * 2 ^ 64 + a) % 2 ^ 64 ≡ a
 slot_of s a h = grind arith
 
 module _ (t : DeathTable) where

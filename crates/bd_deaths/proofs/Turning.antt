@@ -1,5 +1,5 @@
 -- The table after what is kept of some has changed.
-use Rattle.std.proofs.Common.{◌≡◌, ℕ, ◌==◌, ◌<◌, Bool, true, false, not, ◌&&◌, cond, List, [], ◌∷◌, find, filter, map, length, Option, Some, None, refl, sym, ap, subst, ◌∙◌, arith}
+use Rattle.std.proofs.Common.{◌≡◌, ℕ, ◌==◌, ◌<◌, ◌*◌, ◌+◌, ◌^◌, Bool, true, false, not, ◌&&◌, cond, List, [], ◌∷◌, find, filter, map, length, Option, Some, None, refl, sym, ap, subst, ◌∙◌, arith}
 use Rattle.std.proofs.{lemmas.List.{length-map, get_or-map}, lemmas.List.Elements.{All-map}}
 use Rattle.std.specs.{Prelude.{option_map, AllPairs, get_or}}
 use Rattle.bd_ways.specs.Words.{DeathNotification, changed}
@@ -9,7 +9,9 @@ use Rattle.bd_deaths.specs.{declared.key.NameKey.{NameKey}, declared.kept.Kept.{
 use Rattle.bd_deaths.specs.Entries.{Entry, Apart, Fits, ObjectsShow, ProcessesShow, death_of, made_of, at_of, kept_of, object_row, process_row, asks_on, kept_at, place_at, name_at}
 use Rattle.bd_keys.specs.declared.map.WordMap.{WordMap}
 use Rattle.bd_deaths.specs.declared.sharers.Sharers.{Sharers}
-use Rattle.bd_deaths.specs.{Stands.{DeathsAre}, Shared.{AreShared}}
+use Rattle.bd_deaths.specs.{Stands.{DeathsAre}, Shared.{AreShared}, Entries.{EntriesAre}, Held.{AreHeld, is_told_number}, Tolds.{number_count}, Numbers.{number_of}}
+use Rattle.bd_deaths.specs.declared.tolds.Tolds.{Tolds}
+use Rattle.bd_space.specs.Deaths.{is_told}
 use Rattle.slab.specs.Slab.{Slab, get}
 use Rattle.bd_ways.specs.Words.{Phase}
 use Rattle.bd_space.specs.Deaths.{is_notification}
@@ -71,22 +73,24 @@ module _ (F : Kept → Kept) (keeps : (k : Kept) → Keeps F k) where
         → ((rs : List (Row Watch)) → ObjectsShow t rs → ObjectsShow u rs) → ((rs : List (Row Mark)) → ProcessesShow t rs → ProcessesShow u rs)
         → ((k : ℕ) → kept_at u k ≡ option_map F (kept_at t k)) → ((m : ℕ) → place_at u m ≡ place_at t m)
         → ((n : NameKey) → name_at u n ≡ option_map at_of (find (λ e. asks_on n (F e.kept).death) h.entries))
-        → u.next ≡ t.next → AreShared u.cookies (changed P f l) → DeathsAre u (changed P f l)
-    deaths_turned t u l h objects processes slots places names next shared =
+        → u.next ≡ t.next → AreShared u.cookies (changed P f l) → (EntriesAre u (map turn h.entries) → AreHeld u.tolds (map turn h.entries)) → DeathsAre u (changed P f l)
+    deaths_turned t u l h objects processes slots places names next shared held =
         let es = h.entries in
+        let are : EntriesAre u (map turn es) = record {
+          on_objects = subst (ObjectsShow u) (sym (map_map object_row turn es ∙ map_same _ _ object_same es)) (objects (map object_row es) h.are.on_objects);
+          of_processes = subst (ProcessesShow u) (sym (map_map process_row turn es ∙ map_same _ _ process_same es)) (processes (map process_row es) h.are.of_processes);
+          slots_are = λ k. slots k ∙ ap (option_map F) (h.are.slots_are k) ∙ mapped (find (λ e. at_of e == k) es) ∙ sym (found_turned (λ e. at_of e == k) turn kept_of (λ e. refl) es);
+          places_are = λ m. places m ∙ h.are.places_are m ∙ sym (found_turned (λ e. made_of e == m) turn at_of (λ e. ap (λ n. n == m) (keeps e.kept).made) es);
+          names_are = λ n. names n ∙ sym (turned n es);
+          apart = pairs_mapped Apart turn apart_turned es h.are.apart;
+          fit = All-map (Fits u.next) turn es (λ i d lt. let w = h.are.fit i d lt in record { serial = subst (λ m. m < u.next) (sym (keeps (get_or es i d).kept).serial) (subst (λ n. (get_or es i d).kept.serial < n) (sym next) w.serial); at = w.at });
+        } in
         record {
           entries = map turn es;
-          are = record {
-            on_objects = subst (ObjectsShow u) (sym (map_map object_row turn es ∙ map_same _ _ object_same es)) (objects (map object_row es) h.are.on_objects);
-            of_processes = subst (ProcessesShow u) (sym (map_map process_row turn es ∙ map_same _ _ process_same es)) (processes (map process_row es) h.are.of_processes);
-            slots_are = λ k. slots k ∙ ap (option_map F) (h.are.slots_are k) ∙ mapped (find (λ e. at_of e == k) es) ∙ sym (found_turned (λ e. at_of e == k) turn kept_of (λ e. refl) es);
-            places_are = λ m. places m ∙ h.are.places_are m ∙ sym (found_turned (λ e. made_of e == m) turn at_of (λ e. ap (λ n. n == m) (keeps e.kept).made) es);
-            names_are = λ n. names n ∙ sym (turned n es);
-            apart = pairs_mapped Apart turn apart_turned es h.are.apart;
-            fit = All-map (Fits u.next) turn es (λ i d lt. let w = h.are.fit i d lt in record { serial = subst (λ m. m < u.next) (sym (keeps (get_or es i d).kept).serial) (subst (λ n. (get_or es i d).kept.serial < n) (sym next) w.serial); at = w.at });
-          };
+          are = are;
           deaths_are = changes es ∙ ap (changed P f) h.deaths_are;
           shared = shared;
+          held = held are;
         }
       where
         mapped : (o : Option Entry) → option_map F (option_map kept_of o) ≡ option_map (λ e. kept_of (turn e)) o
@@ -99,6 +103,12 @@ module _ (F : Kept → Kept) (keeps : (k : Kept) → Keeps F k) where
             at : (o : Option Entry) → option_map at_of (option_map turn o) ≡ option_map at_of o
             at None = refl
             at (Some e) = refl
+
+  -- those that are told were told before
+  pub held_turned : ((k : Kept) → is_told (F k).death.phase ≡ true → is_told k.death.phase ≡ true) → (d : Tolds) (es : List Entry) → AreHeld d es → AreHeld d (map turn es)
+  held_turned before d es held = λ w.
+      All-map (λ e. is_told e.kept.death.phase ≡ true → 0 < number_count d (number_of e.kept e.at)) turn es
+      (λ i z lt told. subst (λ s. 0 < number_count d (s * 2 ^ 64 + (get_or es i z).at)) (sym (keeps (get_or es i z).kept).serial) (held w i z lt (before (get_or es i z).kept told)))
 
 -- ---- those change that pass
 
@@ -132,16 +142,20 @@ module _ (P : DeathNotification → Bool) (g : Kept → Kept) where
       at true = same k
       at false = refl
 
+abbrev pub keeps_phase : (P : DeathNotification → Bool) (phase : Phase) (k : Kept) → Keeps (partly P (in_phase phase)) k
+keeps_phase P phase = keeps_partly P (in_phase phase) (λ k. record { made = refl; process = refl; object = refl; serial = refl; on = refl; of = refl })
+
 -- some are in another phase
-pub phases_turned : (P : DeathNotification → Bool) (phase : Phase) (t : DeathTable) (slots : Slab Kept) (cookies : WordMap Sharers) (l : List DeathNotification) → DeathsAre t l
+pub phases_turned : (P : DeathNotification → Bool) (phase : Phase) (t : DeathTable) (slots : Slab Kept) (cookies : WordMap Sharers) (tolds : Tolds) (l : List DeathNotification) (h : DeathsAre t l)
     → ((k : ℕ) → get slots k ≡ option_map (partly P (in_phase phase)) (kept_at t k)) → AreShared cookies (changed P (λ x. record x { phase = phase }) l)
-    → DeathsAre (record t { slots = slots; cookies = cookies }) (changed P (λ x. record x { phase = phase }) l)
-phases_turned P phase t slots cookies l h are shared =
+    → (EntriesAre (record t { slots = slots; cookies = cookies; tolds = tolds }) (map (turn (partly P (in_phase phase)) (keeps_phase P phase)) h.entries) → AreHeld tolds (map (turn (partly P (in_phase phase)) (keeps_phase P phase)) h.entries))
+    → DeathsAre (record t { slots = slots; cookies = cookies; tolds = tolds }) (changed P (λ x. record x { phase = phase }) l)
+phases_turned P phase t slots cookies tolds l h are shared held =
     let g = in_phase phase in
-    deaths_turned (partly P g) (keeps_partly P g (λ k. record { made = refl; process = refl; object = refl; serial = refl; on = refl; of = refl })) P (λ x. record x { phase = phase }) (says P g (λ x. record x { phase = phase }) (λ k. refl))
+    deaths_turned (partly P g) (keeps_phase P phase) P (λ x. record x { phase = phase }) (says P g (λ x. record x { phase = phase }) (λ k. refl))
     (λ n k on. sym (either P g (λ k. asks_on n k.death) k refl) ∙ on)
-    t (record t { slots = slots; cookies = cookies }) l h (λ rs s. s) (λ rs s. s) are (λ m. refl)
-    (λ n. h.are.names_are n ∙ ap (option_map at_of) (find_same _ _ (λ e. sym (either P g (λ k. asks_on n k.death) e.kept refl)) h.entries)) refl shared
+    t (record t { slots = slots; cookies = cookies; tolds = tolds }) l h (λ rs s. s) (λ rs s. s) are (λ m. refl)
+    (λ n. h.are.names_are n ∙ ap (option_map at_of) (find_same _ _ (λ e. sym (either P g (λ k. asks_on n k.death) e.kept refl)) h.entries)) refl shared held
 
 -- ---- the one made at a place
 
@@ -203,8 +217,8 @@ find_filter p q (x ∷ xs) = grind (arith, find_filter p q xs)
 pub cleared_turned : (t : DeathTable) (m : ℕ) (l : List DeathNotification) (h : DeathsAre t l) (at : ℕ) (x : DeathNotification) → place_at t m ≡ Some at
     → option_map (λ k. k.death) (kept_at t at) ≡ Some x → (u : DeathTable) → ((rs : List (Row Watch)) → ObjectsShow t rs → ObjectsShow u rs) → ((rs : List (Row Mark)) → ProcessesShow t rs → ProcessesShow u rs)
     → ((k : ℕ) → kept_at u k ≡ cond (at == k) (option_map with_cleared (kept_at t k)) (kept_at t k)) → ((n : ℕ) → place_at u n ≡ place_at t n)
-    → ((n : NameKey) → name_at u n ≡ cond (asks_on n x) None (name_at t n)) → u.next ≡ t.next → u.cookies ≡ t.cookies → DeathsAre u (changed (is_notification m) (λ x. record x { cleared = true }) l)
-cleared_turned t m l h at x place there u objects processes set places gone next cookies =
+    → ((n : NameKey) → name_at u n ≡ cond (asks_on n x) None (name_at t n)) → u.next ≡ t.next → u.cookies ≡ t.cookies → u.tolds ≡ t.tolds → DeathsAre u (changed (is_notification m) (λ x. record x { cleared = true }) l)
+cleared_turned t m l h at x place there u objects processes set places gone next cookies tolds =
     deaths_turned (partly P with_cleared) (keeps_partly P with_cleared (λ k. record { made = refl; process = refl; object = refl; serial = refl; on = refl; of = refl })) P (λ x. record x { cleared = true })
     (says P with_cleared (λ x. record x { cleared = true }) (λ k. refl))
     (λ n k on. (and_parts (not (P k.death)) (asks_on n k.death) (sym (asks_cleared n k (P k.death)) ∙ on)).1)
@@ -214,6 +228,8 @@ cleared_turned t m l h at x place there u objects processes set places gone next
     ∙ ap (option_map at_of) (find_filter (λ e. asks_on n (death_of e)) (λ e. not (has made_of m e)) es
     ∙ find_same _ _ (λ e. sym (asks_cleared n e.kept (P (death_of e)))) es)) next
     (subst (λ c. AreShared c (changed (is_notification m) (λ x. record x { cleared = true }) l)) (sym cookies) (shared_same t.cookies l (is_notification m) (λ x. record x { cleared = true }) (λ k x. refl) (λ k x on. refl) h.shared))
+    (λ are. subst (λ d. AreHeld d (map (turn (partly P with_cleared) (keeps_partly P with_cleared (λ k. record { made = refl; process = refl; object = refl; serial = refl; on = refl; of = refl }))) es)) (sym tolds)
+    (held_turned (partly P with_cleared) (keeps_partly P with_cleared (λ k. record { made = refl; process = refl; object = refl; serial = refl; on = refl; of = refl })) (λ k told. sym (either P with_cleared (λ k. is_told k.death.phase) k refl) ∙ told) t.tolds es h.held))
   where
     P : DeathNotification → Bool
     P = is_notification m

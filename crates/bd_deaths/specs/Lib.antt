@@ -1,9 +1,11 @@
 pub mod Entries
 pub mod Shared
+pub mod Tolds
 pub mod Changes
-pub mod Stands
 pub mod Room
 pub mod Due
 pub mod Numbers
+pub mod Held
+pub mod Stands
 pub mod Objects
 pub mod Only

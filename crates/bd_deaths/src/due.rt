@@ -17,10 +17,10 @@ use bd_space::{DeathNotification, Phase};
 use std::alloc::{AllocError, Global};
 
 // The place of a slot in a number.
-const ABOVE: u128 = 0x1_0000_0000_0000_0000;
+pub(crate) const ABOVE: u128 = 0x1_0000_0000_0000_0000;
 
 // The serial number above the slot: rises from each to the next that came.
-fn number_of(kept: &Kept, at: usize) -> u128
+pub(crate) fn number_of(kept: &Kept, at: usize) -> u128
     ensures { result ≡ numbers.number_of kept.now at }
 {
     u128::from(kept.serial) * ABOVE + at as u128

@@ -8,5 +8,6 @@ mod look;
 mod phase;
 mod sharers;
 mod table;
+mod tolds;
 
 pub use table::DeathTable;

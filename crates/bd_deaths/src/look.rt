@@ -1,15 +1,16 @@
 //! Looks by the step that made a notification, by process and object, and by process and cookie.
 
-ghost use Rattle.std.specs.{Prelude.{◌≡◌, find, None, List}, HashMap.{get, get_by}};
+ghost use Rattle.std.specs.{Prelude.{◌≡◌, find, Some, None, List, IfSome}, HashMap.{get, get_by}};
 ghost use Rattle.slab.specs.Slab as slab;
 ghost use Rattle.bd_space.specs.declared.space.DeathNotification as declared;
 ghost use Rattle.bd_space.specs.Deaths as deaths_of;
 ghost use Rattle.bd_deaths.specs.Entries as spec;
 
-use crate::kept::Mark;
+use crate::due::ABOVE;
+use crate::kept::{Kept, Mark};
 use crate::key::NameKey;
 use crate::sharers::{is_told, sharers_at};
-use crate::table::DeathTable;
+use crate::table::{DeathTable, is_told_number};
 use bd_chains::{Items, Numbering};
 use bd_keys::WordKey;
 use bd_space::{DeathNotification, Identity};
@@ -33,6 +34,13 @@ impl DeathTable {
             Some(kept) => Some(kept.death),
             None => None,
         }
+    }
+
+    // What is kept in this slot, with its places on its lists.
+    pub(crate) fn kept_in(&self, at: usize) -> Option<Kept>
+        ensures { result ≡ spec.kept_at self.now at }
+    {
+        self.slots.get(at).copied()
     }
 
     /// The notification of this place.
@@ -82,6 +90,23 @@ impl DeathTable {
         None
     }
 
+    // In which slot the least told notification of all is, if it is of the process, with the cookie.
+    fn least_told(&self, p: u64, cookie: u64) -> Option<usize>
+        ensures { IfSome result (λ at. (l : List declared.DeathNotification) → (h : DeathsAre self.now l)
+            → option_map spec.at_of (find (λ e. deaths_of.is_told_with p cookie (spec.death_of e)) h.entries) ≡ Some at) }
+    {
+        if !self.tolds.whole {
+            return None;
+        }
+        let number = self.tolds.least()?;
+        let at = (number % ABOVE) as usize;
+        if self.is_told_at(p, cookie, at) && is_told_number(&self.slots, number) {
+            Some(at)
+        } else {
+            None
+        }
+    }
+
     // In which slot the least told notification of the process with this cookie is. Mostly it is the only one.
     fn slot_told(&self, p: u64, cookie: u64) -> Option<usize>
         ensures { (l : List declared.DeathNotification) → (h : DeathsAre self.now l) → result
@@ -97,6 +122,9 @@ impl DeathTable {
         }
         if sharers.told == 1 && self.is_told_at(p, cookie, sharers.latest) {
             return Some(sharers.latest);
+        }
+        if let Some(at) = self.least_told(p, cookie) {
+            return Some(at);
         }
         let marks = self.processes.chains.items_on(self.processes.numbers.of(p));
         self.first_told(p, cookie, marks)

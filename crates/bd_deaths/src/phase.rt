@@ -12,9 +12,10 @@ ghost use Rattle.bd_space.specs.declared.space.Phase.TheVariants.{Told};
 ghost use Rattle.bd_deaths.specs.Due as due;
 ghost use Rattle.bd_deaths.specs.Changes as changes;
 
+use crate::due::number_of;
 use crate::kept::{Kept, Watch};
 use crate::sharers::turn_sharer;
-use crate::table::{DeathTable, forget_name};
+use crate::table::{DeathTable, forget_name, pass_gone};
 use bd_chains::{Items, Numbering};
 use bd_records::Records;
 use bd_space::{Identity, Phase, Work, WorkKind};
@@ -94,9 +95,11 @@ impl DeathTable {
         ensures count { death_count self.new ≡ death_count self.old }
     {
         if let Some(at) = self.place(made) {
-            if let Some(x) = self.in_slot(at) {
-                turn_sharer(&mut self.cookies, &x, at, phase);
+            if let Some(kept) = self.kept_in(at) {
+                turn_sharer(&mut self.cookies, &kept.death, at, phase);
                 set_phase_at(&mut self.slots, at, phase);
+                self.tolds.add(phase, number_of(&kept, at));
+                pass_gone(&mut self.tolds, &self.slots);
             }
         }
     }

@@ -1,7 +1,7 @@
 //! The table: its memory, what comes and what goes.
 #![tactic(auto, unfolding(crate::specs::Room::death_room, crate::specs::Room::death_count))]
 
-ghost use Rattle.std.specs.Prelude.{ℕ, List, ◌≡◌, ◌==◌, ◌≤◌, ◌-◌, ◌++◌, ◌∷◌, [], false, not, filter, find, None, if◌then◌else◌, OnOk, OnErr};
+ghost use Rattle.std.specs.Prelude.{ℕ, List, ◌≡◌, ◌==◌, ◌≤◌, ◌<◌, true, ◌-◌, ◌++◌, ◌∷◌, [], false, not, filter, find, None, if◌then◌else◌, OnOk, OnErr};
 ghost use Rattle.std.specs.{List.{list_any}, HashMap.{get, get_by, spare}};
 ghost use Rattle.slab.specs.Slab.{slab_len};
 ghost use Rattle.slab.specs.Slab as slab;
@@ -9,11 +9,14 @@ ghost use Rattle.bd_space.specs.declared.space.DeathNotification as declared;
 ghost use Rattle.bd_space.specs.Words.{is_some_and};
 ghost use Rattle.bd_space.specs.Deaths as deaths_of;
 ghost use Rattle.bd_deaths.specs.Entries as spec;
+ghost use Rattle.bd_deaths.specs.{Held.{is_told_number}, Tolds.{number_count}};
 ghost use Rattle.bd_deaths.specs.declared.key.NameKey.{NameKey};
 
+use crate::due::{ABOVE, number_of};
 use crate::kept::{Kept, Mark, Watch};
 use crate::key::{NameKey, name_of};
-use crate::sharers::{Sharers, add_sharer, remove_sharer};
+use crate::sharers::{Sharers, add_sharer, is_told, remove_sharer};
+use crate::tolds::Tolds;
 use bd_chains::{Lists, Numbers};
 use bd_keys::{WordMap, insert_reserved};
 use bd_numbered::Guesses;
@@ -34,6 +37,8 @@ pub struct DeathTable {
     pub(crate) names: HashMap<NameKey, usize>,
     // How many have each cookie: a process picks its cookies, and whatever it picks, a look stays short.
     pub(crate) cookies: WordMap<Sharers>,
+    // The numbers of those that are told: where several have a cookie, the least is mostly the one that is looked for.
+    pub(crate) tolds: Tolds,
     // In which slot the one is that was made at a place.
     pub(crate) guesses: Guesses,
     // The serial number of the next that comes.
@@ -49,6 +54,7 @@ impl Drop for DeathTable {
             places: _,
             names: _,
             cookies: _,
+            tolds: _,
             guesses: _,
             next: _,
         } = self;
@@ -89,6 +95,32 @@ pub(crate) fn forget_name(names: &mut HashMap<NameKey, usize>, x: &DeathNotifica
     }
 }
 
+// Whether it is the number of what is kept in its slot, which is told.
+pub(crate) fn is_told_number(slots: &Slab<Kept>, number: u128) -> bool
+    ensures { result ≡ is_told_number slots.now number }
+{
+    let at = (number % ABOVE) as usize;
+    match slots.get(at) {
+        Some(kept) => is_told(kept.death.phase) && number_of(kept, at) == number,
+        None => false,
+    }
+}
+
+// The least numbers go that are of none that is told.
+pub(crate) fn pass_gone(tolds: &mut Tolds, slots: &Slab<Kept>)
+    ensures kept { (n : ℕ) → is_told_number slots.now n ≡ true → 0 < number_count tolds.old n → 0 < number_count tolds.new n }
+    ensures whole { tolds.new.whole ≡ tolds.old.whole }
+{
+    for _ in 0..tolds.len() {
+        match tolds.least() {
+            Some(number) if !is_told_number(slots, number) => {
+                let _gone = tolds.pop();
+            }
+            _ => return,
+        }
+    }
+}
+
 // What is kept in a slot goes.
 fn take_slot(slots: &mut Slab<Kept>, at: usize) -> Option<Kept>
     ensures value { result ≡ slab.get slots.old at }
@@ -118,6 +150,7 @@ impl DeathTable {
             places: HashMap::new(alloc),
             names: HashMap::new(alloc),
             cookies: WordMap::new(alloc),
+            tolds: Tolds::new(alloc),
             guesses: Guesses::new(alloc),
             next: 0,
         }
@@ -168,6 +201,7 @@ impl DeathTable {
             object: self.objects.push(x.object, watch, false),
             process: self.processes.push(x.process, mark, false),
         };
+        self.tolds.add(x.phase, number_of(&kept, at));
         self.slots.insert_reserved(kept);
         self.guesses.note(x.made, at);
         insert_reserved(&mut self.places, x.made, at);
@@ -210,6 +244,7 @@ impl DeathTable {
         ensures slots { self.new.slots ≡ self.old.slots }
         ensures places { self.new.places ≡ self.old.places }
         ensures cookies { self.new.cookies ≡ self.old.cookies }
+        ensures tolds { self.new.tolds ≡ self.old.tolds }
         ensures next { self.new.next ≡ self.old.next }
         ensures listed { lists_room self.old.objects.chains (spare self.old.objects.numbers.all)
             ≤ lists_room self.new.objects.chains (spare self.new.objects.numbers.all) }
@@ -223,8 +258,8 @@ impl DeathTable {
         let _mark = self.processes.chains.remove(kept.process);
     }
 
-    /// The notification made at this place goes, if there is one.
-    pub fn remove(&mut self, made: u64)
+    // The notification made at this place goes, if there is one. Its number may stay.
+    fn take_out(&mut self, made: u64)
         ensures stands { Makes self.old self.new (λ l. filter (λ x. not (deaths_of.is_notification made x)) l) }
         ensures uses { Uses self.old self.new 0 }
     {
@@ -236,6 +271,15 @@ impl DeathTable {
         }
     }
 
+    /// The notification made at this place goes, if there is one.
+    pub fn remove(&mut self, made: u64)
+        ensures stands { Makes self.old self.new (λ l. filter (λ x. not (deaths_of.is_notification made x)) l) }
+        ensures uses { Uses self.old self.new 0 }
+    {
+        self.take_out(made);
+        pass_gone(&mut self.tolds, &self.slots);
+    }
+
     // One after the other goes, until the process has none.
     fn pop_each(&mut self, p: u64)
         ensures stands { Makes self.old self.new (λ l. filter (λ x. not (x.process == p)) l) }
@@ -243,7 +287,7 @@ impl DeathTable {
     {
         for _ in 0..self.processes.chains.len() {
             match self.processes.front(p) {
-                Some(mark) => self.remove(mark.made),
+                Some(mark) => self.take_out(mark.made),
                 None => return,
             }
         }
@@ -258,5 +302,6 @@ impl DeathTable {
     {
         self.pop_each(p);
         self.processes.give_back(p);
+        pass_gone(&mut self.tolds, &self.slots);
     }
 }

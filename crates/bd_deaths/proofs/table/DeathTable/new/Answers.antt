@@ -20,4 +20,5 @@ returns c = record {
     tolds = λ k. ap told_of (c.new-8.ensures k);
     kept = λ k none. c.new-8.ensures k;
   };
+  held = λ w k d h. absurd (omega arith);
 }

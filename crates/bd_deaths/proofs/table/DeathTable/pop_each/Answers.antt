@@ -6,13 +6,13 @@ use Rattle.bd_deaths.proofs.table.DeathTable.pop_each.Goals as goal
 
 pub loop-preserved : goal.loop-preserved
 loop-preserved c = record {
-  uses = uses_then c.loop.invariant.uses c.remove.ensures.uses;
+  uses = uses_then c.loop.invariant.uses c.take_out.ensures.uses;
   left = λ l h.
       let m = c.loop.invariant.left l h in
       let w = popped c.loop.self c.args.p m.0 m.1 c.in-Some.mark (sym (c.front.ensures by_process (λ _. false) (map process_row m.1.entries) m.1.are.of_processes) ∙ c.in-Some.is) in
       let few = m.3 in
       let less = w.1 in
-      (_, c.remove.ensures.stands m.0 m.1, w.0 ∙ m.2, omega (arith, less, few));
+      (_, c.take_out.ensures.stands m.0 m.1, w.0 ∙ m.2, omega (arith, less, few));
 }
 
 pub returns-in-None-clause-stands : goal.returns-in-None-clause-stands

@@ -7,6 +7,8 @@ use Rattle.bd_deaths.specs.{Room.{death_room, death_count}, Entries.{by_object, 
 use Rattle.std.proofs.Common.{map, length}
 use Rattle.std.proofs.lemmas.List.{length-map}
 use Rattle.bd_keys.specs.Look.{word_room}
+use Rattle.std.proofs.Common.{◌<◌, subst}
+use Rattle.bd_deaths.specs.{Tolds.{number_count}}
 use Rattle.bd_deaths.specs.Entries.{object_row, death_of}
 use Rattle.bd_deaths.proofs.{Sharing.{shared_more}, Changes.{deaths_pushed}}
 use Rattle.bd_deaths.proofs.table.DeathTable.push.Goals as goal
@@ -44,6 +46,7 @@ returns-clause-stands c = λ l new asked h.
     let b = length-map h.entries death_of in
     let d = ap length h.deaths_are in
     shared_more c.args.self.now.cookies c.add_sharer.new.cookies l c.args.x h.shared (omega (arith, few, a, b, d)) c.add_sharer.ensures.counted c.add_sharer.ensures.tolds c.add_sharer.ensures.kept)
+    c.add.ensures.whole c.add.ensures.kept (λ w told. subst (λ n. 0 < number_count c.add.new.self n) c.number_of.ensures (c.add.ensures.itself w told))
 
 pub returns-clause-uses : goal.returns-clause-uses
 unfolding death_room death_count

@@ -3,12 +3,13 @@ use Rattle.std.specs.List.{list_any}
 use Rattle.std.specs.Prelude.{◌==◌}
 use Rattle.bd_keys.proofs.Tables.{uses_then}
 use Rattle.bd_deaths.specs.Entries.{by_process, process_row}
-use Rattle.bd_deaths.proofs.{Changes.{deaths_kept, uses_less}, Ending.{marks_to, none_owned}}
+use Rattle.bd_deaths.proofs.{Held.{held_passed}, Changes.{deaths_kept, uses_less}, Ending.{marks_to, none_owned}}
 use Rattle.bd_deaths.proofs.table.DeathTable.remove_process.Goals as goal
 
 pub returns-clause-stands : goal.returns-clause-stands
 returns-clause-stands c = λ l h.
-    deaths_kept c.pop_each.new.self _ _ (λ rs s. s) (c.give_back.ensures.stands by_process (λ _. false)) (λ k. refl) (λ m. refl) (λ k. refl) refl (λ s. s) (c.pop_each.ensures.stands l h)
+    deaths_kept c.pop_each.new.self _ _ (λ rs s. s) (c.give_back.ensures.stands by_process (λ _. false)) (λ k. refl) (λ m. refl) (λ k. refl) refl (λ s. s)
+    (λ es a d. held_passed c.pop_each.new.self c.pop_each.new.self.tolds c.pass_gone.new.tolds es a c.pass_gone.ensures.kept c.pass_gone.ensures.whole d) (c.pop_each.ensures.stands l h)
 
 pub returns-clause-uses : goal.returns-clause-uses
 returns-clause-uses c = uses_then c.pop_each.ensures.uses (uses_less c.pop_each.new.self _ (omega arith) (omega arith) refl (omega arith) c.give_back.ensures.uses (omega arith) (omega arith) (omega arith))

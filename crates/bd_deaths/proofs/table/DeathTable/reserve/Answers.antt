@@ -6,22 +6,22 @@ use Rattle.bd_deaths.proofs.table.DeathTable.reserve.Goals as goal
 pub returns-clause-stands : goal.returns-clause-stands
 returns-clause-stands c = λ l.
     deaths_kept c.args.self.now _ l (c.reserve.ensures.stands by_object (λ _. false)) (c.reserve-2.ensures.stands by_process (λ _. false)) c.reserve_slots.ensures.same
-    (λ m. c.reserve-3.ensures.entries.2 m) (λ k. c.reserve-4.ensures.entries.2 k) refl (shared_kept c.args.self.now.cookies _ l c.reserve-5.ensures.kept)
+    (λ m. c.reserve-3.ensures.entries.2 m) (λ k. c.reserve-4.ensures.entries.2 k) refl (shared_kept c.args.self.now.cookies _ l c.reserve-5.ensures.kept) (λ es a d. d)
 
 pub returns-in_err-reserve-3-clause-stands : goal.returns-in_err-reserve-3-clause-stands
 returns-in_err-reserve-3-clause-stands c = λ l.
     deaths_kept c.args.self.now _ l (c.reserve.ensures.stands by_object (λ _. false)) (c.reserve-2.ensures.stands by_process (λ _. false)) c.reserve_slots.ensures.same
-    (λ m. c.reserve-3.ensures.entries.2 m) (λ k. refl) refl (λ s. s)
+    (λ m. c.reserve-3.ensures.entries.2 m) (λ k. refl) refl (λ s. s) (λ es a d. d)
 
 pub returns-in_err-reserve-2-clause-stands : goal.returns-in_err-reserve-2-clause-stands
 returns-in_err-reserve-2-clause-stands c = λ l.
     deaths_kept c.args.self.now _ l (c.reserve.ensures.stands by_object (λ _. false)) (c.reserve-2.ensures.stands by_process (λ _. false)) c.reserve_slots.ensures.same
-    (λ m. refl) (λ k. refl) refl (λ s. s)
+    (λ m. refl) (λ k. refl) refl (λ s. s) (λ es a d. d)
 
 pub returns-in_err-reserve-clause-stands : goal.returns-in_err-reserve-clause-stands
 returns-in_err-reserve-clause-stands c = λ l.
     deaths_kept c.args.self.now _ l (c.reserve.ensures.stands by_object (λ _. false)) (λ rs s. s) c.reserve_slots.ensures.same
-    (λ m. refl) (λ k. refl) refl (λ s. s)
+    (λ m. refl) (λ k. refl) refl (λ s. s) (λ es a d. d)
 
 pub returns-clause-uses : goal.returns-clause-uses
 returns-clause-uses c = uses_less c.args.self.now _ c.reserve_slots.ensures.uses (let e = c.reserve_slots.ensures.len in omega (arith, e)) refl c.reserve.ensures.uses c.reserve-2.ensures.uses c.reserve-3.ensures.spare c.reserve-4.ensures.spare c.reserve-5.ensures.uses
@@ -32,7 +32,7 @@ returns-in_err-reserve-3-clause-uses c = uses_less c.args.self.now _ c.reserve_s
 pub returns-in_err-reserve-4-clause-stands : goal.returns-in_err-reserve-4-clause-stands
 returns-in_err-reserve-4-clause-stands c = λ l.
     deaths_kept c.args.self.now _ l (c.reserve.ensures.stands by_object (λ _. false)) (c.reserve-2.ensures.stands by_process (λ _. false)) c.reserve_slots.ensures.same
-    (λ m. c.reserve-3.ensures.entries.2 m) (λ k. c.reserve-4.ensures.entries.2 k) refl (λ s. s)
+    (λ m. c.reserve-3.ensures.entries.2 m) (λ k. c.reserve-4.ensures.entries.2 k) refl (λ s. s) (λ es a d. d)
 
 pub returns-in_err-reserve-4-clause-uses : goal.returns-in_err-reserve-4-clause-uses
 returns-in_err-reserve-4-clause-uses c = uses_less c.args.self.now _ c.reserve_slots.ensures.uses (let e = c.reserve_slots.ensures.len in omega (arith, e)) refl c.reserve.ensures.uses c.reserve-2.ensures.uses c.reserve-3.ensures.spare c.reserve-4.ensures.spare (omega arith)
@@ -40,7 +40,7 @@ returns-in_err-reserve-4-clause-uses c = uses_less c.args.self.now _ c.reserve_s
 pub returns-in_err-reserve-5-clause-stands : goal.returns-in_err-reserve-5-clause-stands
 returns-in_err-reserve-5-clause-stands c = λ l.
     deaths_kept c.args.self.now _ l (c.reserve.ensures.stands by_object (λ _. false)) (c.reserve-2.ensures.stands by_process (λ _. false)) c.reserve_slots.ensures.same
-    (λ m. c.reserve-3.ensures.entries.2 m) (λ k. c.reserve-4.ensures.entries.2 k) refl (shared_kept c.args.self.now.cookies _ l c.reserve-5.ensures.kept)
+    (λ m. c.reserve-3.ensures.entries.2 m) (λ k. c.reserve-4.ensures.entries.2 k) refl (shared_kept c.args.self.now.cookies _ l c.reserve-5.ensures.kept) (λ es a d. d)
 
 pub returns-in_err-reserve-5-clause-uses : goal.returns-in_err-reserve-5-clause-uses
 returns-in_err-reserve-5-clause-uses c = uses_less c.args.self.now _ c.reserve_slots.ensures.uses (let e = c.reserve_slots.ensures.len in omega (arith, e)) refl c.reserve.ensures.uses c.reserve-2.ensures.uses c.reserve-3.ensures.spare c.reserve-4.ensures.spare c.reserve-5.ensures.uses

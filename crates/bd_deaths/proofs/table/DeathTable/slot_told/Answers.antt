@@ -22,3 +22,6 @@ returns c = λ l h.
     let es = h.entries in
     c.first_told.ensures ∙ ap (first_at (is_told_in t c.args.p c.args.cookie)) (c.items_on-marks.ensures (map process_row es) h.are.of_processes.holds ∙ marks_are t c.args.p es h.are c.of.result (sym c.of.ensures))
     ∙ first_is t c.args.p c.args.cookie es (all_kept t es h.are)
+
+pub returns-in-Some : goal.returns-in-Some
+returns-in-Some c = λ l h. sym (c.in-Some.ensures l h)
