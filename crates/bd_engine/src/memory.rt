@@ -2,6 +2,7 @@
 
 use bd_space::Bytes;
 use std::alloc::Global;
+use std::mem::replace;
 
 // More isn't kept.
 const KEPT: usize = 65536;
@@ -9,8 +10,9 @@ const KEPT: usize = 65536;
 /// Gives up the memory of bytes that nobody needs, where it is much: none are left then.
 #[inline(always)]
 pub(crate) fn leave_much(alloc: Global, bytes: &mut Bytes) {
-    if MUCH < bytes.len() {
-        *bytes = Bytes::new(Vec::new(alloc));
+    let memory = replace(bytes, Bytes::new(Vec::new(alloc))).into_vec();
+    if memory.capacity() <= KEPT {
+        *bytes = Bytes::new(memory);
     }
 }
 
