@@ -70,7 +70,7 @@ fn has(ours: &Value, theirs: &Value) -> bool {
 }
 
 fn compare(words: &[&str], theirs: &[Value]) {
-    let ours = values(&printed(words));
+    let ours = values(&chosen(words));
     assert_eq!(ours.len(), theirs.len(), "{words:?}");
     for (ours, theirs) in ours.iter().zip(theirs) {
         assert!(has(ours, theirs), "{words:?}:\n{ours}\n{theirs}");
