@@ -2,7 +2,7 @@
 #![tactic(auto, unfolding(bd_space::specs::Todo::owe, bd_space::specs::Todo::has_unread, bd_space::specs::Todo::list_to_read, crate::specs::Room::rooms, crate::specs::Told::Recalls, crate::specs::Told::HasRoomToTell))]
 
 ghost use Rattle.std.specs.Prelude.{ℕ, Bool, List, ◌≡◌, ◌==◌, ◌&&◌, ◌-◌, ◌^◌, ◌<◌, ◌≤◌, not, filter, Option, Some, None};
-ghost use Rattle.std.specs.{List.{slice_get}, Option.{is_none}};
+ghost use Rattle.std.specs.Option.{is_none};
 ghost use Rattle.bd_keys.specs.Tables.{AnswersBy};
 ghost use Rattle.bd_uapi.specs.Limits.{most_seats};
 ghost use Rattle.bd_space.specs.{declared.space.WorkKind.{WorkKind}, Frames.{innermost_in}, Words.{is_some_and}};
@@ -60,13 +60,6 @@ impl CallTable {
         ensures { Tells (StandsFor self.now) result (λ s. spec.work_on s.todo (Some list)) }
     {
         self.todo.works_on(list)
-    }
-
-    /// The `k`-th work item on a list, oldest first.
-    pub fn work_at(&self, list: TodoList, k: usize) -> Option<Work>
-        ensures { Tells (StandsFor self.now) result (λ s. slice_get (spec.work_on s.todo (Some list)) k) }
-    {
-        self.todo.work_at(list, k)
     }
 
     /// Where the first reply on a list was made.

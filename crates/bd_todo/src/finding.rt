@@ -1,6 +1,6 @@
 //! What is found among the work items on a list, one after the other.
 
-ghost use Rattle.std.specs.{Prelude.{◌≡◌, Some}, List.{slice_get}};
+ghost use Rattle.std.specs.Prelude.{◌≡◌, Some};
 ghost use Rattle.bd_space.specs.Todo as spec;
 ghost use Rattle.bd_todo.specs.TodoList as replies;
 
@@ -37,13 +37,6 @@ impl WorkTable {
         ensures { Tells self.now result (λ l. spec.work_on l (Some list)) }
     {
         self.queues.chains.items_on(self.queues.numbers.of(list))
-    }
-
-    /// The `k`-th work item on a list, oldest first.
-    pub fn work_at(&self, list: TodoList, k: usize) -> Option<Work>
-        ensures { Tells self.now result (λ l. slice_get (spec.work_on l (Some list)) k) }
-    {
-        self.works_on(list).nth(k)
     }
 
     /// Where the first reply on a list was made.
