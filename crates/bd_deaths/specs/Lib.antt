@@ -1,10 +1,8 @@
-pub mod Slots
-pub mod Listed
+pub mod Entries
+pub mod Changes
 pub mod Stands
 pub mod Room
 pub mod Due
-pub mod Only
-pub mod Keys
-pub mod SharedAt
+pub mod Numbers
 pub mod Objects
-pub mod OneIsDue
+pub mod Only

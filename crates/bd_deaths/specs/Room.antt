@@ -1,27 +1,18 @@
--- How many notifications a table may still take without memory, how many slots it has, and what a change takes of that.
-use Rattle.std.specs.Prelude.{ℕ, ◌-◌, ◌/◌, min, vec_len, vec_capacity}
+-- How many notifications a table may still take without memory, how many it has, and what a change takes of that.
+use Rattle.std.specs.{Prelude.{ℕ, ◌-◌, min}, HashMap.{spare}}
+use Rattle.slab.specs.Slab.{slab_len}
 use Rattle.bd_keys.specs.Tables as tables
-use Rattle.bd_groups.specs.Members.{group_room}
-use Rattle.bd_deaths.specs.declared.list.DeathList.{DeathList}
+use Rattle.bd_chains.specs.Lists.{lists_room}
 use Rattle.bd_deaths.specs.declared.table.DeathTable.{DeathTable}
-use Rattle.bd_deaths.specs.SharedAt.{key_room}
 
-unfoldable pub list_room : DeathList → ℕ
-list_room t = min (vec_capacity t.slots - vec_len t.slots) (key_room t.sharing)
-
-unfoldable pub list_count : DeathList → ℕ
-list_count t = vec_len t.slots
-
--- each is listed twice in the groups
 unfoldable pub death_room : DeathTable → ℕ
-death_room t = min (list_room t.list) (group_room t.groups / 2)
+death_room t =
+    min (min (t.slots.capacity - slab_len t.slots) (18446744073709551615 - t.next))
+    (min (min (lists_room t.objects.chains (spare t.objects.numbers.all)) (lists_room t.processes.chains (spare t.processes.numbers.all)))
+    (min (spare t.places) (spare t.names)))
 
 unfoldable pub death_count : DeathTable → ℕ
-death_count t = list_count t.list
-
--- a change takes room for at most n notifications, and adds at most n
-abbrev pub ListUses : DeathList → DeathList → ℕ → Type 0
-ListUses = tables.Uses list_room list_count
+death_count t = slab_len t.slots
 
 abbrev pub Uses : DeathTable → DeathTable → ℕ → Type 0
 Uses = tables.Uses death_room death_count

@@ -1,25 +1,18 @@
--- What a table of death notifications stands for: those of a space, in their order.
-use Rattle.std.specs.Prelude.{ℕ, suc, ◌≡◌, ◌≤◌, true, List, [], ◌∷◌, All}
+-- What a table of death notifications stands for: those of a space, in its order.
+use Rattle.std.specs.Prelude.{◌≡◌, List, map}
 use Rattle.bd_ways.specs.Words.{DeathNotification}
-use Rattle.bd_deaths.specs.declared.list.DeathList.{DeathList}
-use Rattle.bd_deaths.specs.declared.table.DeathTable.{DeathTable}
-use Rattle.bd_deaths.specs.SharedAt.{AreShared}
-use Rattle.bd_deaths.specs.Listed.{IsListed}
-use Rattle.bd_deaths.specs.Slots.{deaths_in, lives, NoneTold}
-
--- each was made after the one before, from one place on
-abbrev pub IsRising : ℕ → List DeathNotification → Type 0
-IsRising from [] = Unit {0}
-IsRising from (x ∷ xs) = (from ≤ x.made) × IsRising (suc x.made) xs
-
-pub record AreIn (t : DeathList) (l : List DeathNotification) : Type 0 where
-  pub lives_are : lives t.slots.items ≡ l
-  -- those that went are in order too
-  pub rising : t.in_order ≡ true → IsRising 0 (deaths_in t.slots.items)
-  pub keyed : AreShared t.sharing l
-  pub none_told : NoneTold t.told_from t.slots.items
+use Rattle.bd_keys.specs.Tables as tables
+use Rattle.bd_deaths.specs.{declared.table.DeathTable.{DeathTable}, Entries.{Entry, EntriesAre, death_of}}
 
 pub record DeathsAre (t : DeathTable) (l : List DeathNotification) : Type 0 where
-  pub are_in : AreIn t.list l
-  -- places of some that went may be listed too
-  pub listed : All (IsListed t.groups) l
+  pub entries : List Entry
+  pub are : EntriesAre t entries
+  pub deaths_are : map death_of entries ≡ l
+
+-- of every list that the table stands for x is what f says
+abbrev pub Tells : {A : Type 0} → DeathTable → A → (List DeathNotification → A) → Type 0
+Tells t = tables.Tells (DeathsAre t)
+
+-- every list that the table stood for was changed by f
+abbrev pub Makes : DeathTable → DeathTable → (List DeathNotification → List DeathNotification) → Type 0
+Makes t u = tables.Makes (DeathsAre t) (DeathsAre u)

@@ -1,17 +1,11 @@
-//! Death notifications: each found by the step that made it, by its process and cookie, and by its process and object.
+//! Death notifications: each found by the step that made it, by its process and object, and with those of its process or on its object.
 #![tactic(auto)]
 
-mod change;
 mod due;
-mod end;
+mod kept;
 mod key;
-mod list;
-mod listing;
 mod look;
-mod name;
-mod place;
-mod sharing;
-mod slot;
+mod phase;
 mod table;
 
 pub use table::DeathTable;

@@ -76,17 +76,6 @@ module _ (names : List Name) (p : ℕ) (o : Identity) where
   lost_at x true h = rw (there x h) refl
   lost_at x false h = refl
 
-  pub none_lost : (xs : List DeathNotification) → list_any at xs ≡ false → false ≡ list_any (is_lost names p o) xs
-  none_lost [] h = refl
-  none_lost (x ∷ xs) h = by (at x) refl h (none_lost xs)
-    where
-      by : (a : Bool) → at x ≡ a → (a || list_any at xs) ≡ false → (list_any at xs ≡ false → false ≡ list_any (is_lost names p o) xs)
-          → false ≡ (is_lost names p o x || list_any (is_lost names p o) xs)
-      by true e f rest = absurd (cc)
-      by false e f rest =
-          let t : is_lost names p o x ≡ false = ap (λ a. a && not x.cleared && not (is_name_of names x.process x.object)) e in
-          rest f ∙ ap (λ c. c || list_any (is_lost names p o) xs) (sym t)
-
   pub lost_gone : (b : Bool) → b ≡ is_name_of names p o → b ≡ false → (xs : List DeathNotification) → list_any (λ x. at x && not x.cleared) xs ≡ list_any (is_lost names p o) xs
   lost_gone b e h [] = refl
   lost_gone b e h (x ∷ xs) =

@@ -1,5 +1,5 @@
 -- What goes with a process: once nothing is its own any more, no reference gives it a name.
-use Rattle.std.proofs.Common.{◌≡◌, ℕ, ◌==◌, Bool, true, false, not, ◌&&◌, ◌||◌, cond, List, [], ◌∷◌, filter, refl, ap, sym, subst, ◌∙◌, arith}
+use Rattle.std.proofs.Common.{◌≡◌, ℕ, ◌==◌, Bool, true, false, not, ◌&&◌, ◌||◌, cond, List, [], ◌∷◌, filter, refl, ap, sym, subst, ◌∙◌}
 use Rattle.std.specs.List.{list_any}
 use Rattle.bd_ways.specs.Words.{Identity, Object, Reference, Holder, Asked, Carried, Target, Handshake, Manager}
 use Rattle.bd_space.specs.References.{owned_in, is_asked_by, is_in_window, is_of_owner, gives_name_to}

@@ -11,7 +11,7 @@ use Rattle.bd_space.specs.References.{held_in, strong_in}
 use Rattle.bd_space.specs.ReadItems.{is_told_by, told_of}
 use Rattle.bd_space.proofs.Identities.{same_eq}
 use Rattle.bd_objects.specs.Reading.{HoldsAlike}
-use Rattle.bd_deaths.proofs.Changes.{none, same_tests, twice}
+use Rattle.bd_deaths.proofs.Tests.{none, same_tests, twice}
 use Rattle.bd_objects.proofs.Changes.{same_changes}
 
 pub told_one : (refs : List Reference) (o : Identity) (weak strong : Bool) (objects : List Object) → weak ≡ held_in refs o → strong ≡ strong_in refs o

@@ -11,7 +11,7 @@ use Rattle.bd_space.specs.References.{owned_in}
 use Rattle.bd_space.specs.Deaths.{is_notification, with_phase}
 use Rattle.bd_space.specs.Todo.{owe}
 use Rattle.bd_space.specs.ProcessExits.{is_armed, tell_death}
-use Rattle.bd_deaths.proofs.Changes.{none}
+use Rattle.bd_deaths.proofs.Tests.{none}
 use Rattle.bd_deaths.proofs.Telling.{queued, told_by, told, told_more}
 
 -- the members that telling leaves alone, and the notifications

@@ -49,10 +49,10 @@ impl ObjectTable {
         ensures { Tells (StandsFor self.now) result (λ s. list_any (is_lost s.names p o) s.deaths) }
     {
         // Few names have a notification.
-        if !self.deaths.has_on(p, o) {
+        if self.deaths.uncleared(p, o).is_none() {
             return false;
         }
-        !self.has_name(p, o) && self.deaths.has_uncleared(p, o)
+        !self.has_name(p, o)
     }
 
     /// The notification that goes with the process's name of the object, which is gone, where just one does: no other
@@ -66,12 +66,8 @@ impl ObjectTable {
             || notices.still_due s.processes s.objects s.references
             (local.deaths_go_of (local.at_name p o) s).deaths kind)) }
     {
+        let x = self.deaths.uncleared(p, o)?;
         if self.has_name(p, o) {
-            return None;
-        }
-        let x = self.deaths.only_uncleared(p, o)?;
-        // Another may have been made there only in a table that isn't in the order of the steps.
-        if self.deaths.stays(false, p, o, x.made) {
             None
         } else {
             Some(x.made)
@@ -84,8 +80,9 @@ impl ObjectTable {
         ensures stands { Makes (StandsFor self.old) (StandsFor self.new) (local.deaths_go_of (local.at_name p o)) }
         ensures uses { UsesNothing self.old self.new }
     {
-        let named = self.has_name(p, o);
-        self.deaths.remove_unnamed(named, p, o);
+        if let Some(made) = self.only_lost_death(p, o) {
+            self.deaths.remove(made);
+        }
     }
 
     /// Whether a work item of this kind stays: a death's item goes with its notification, if that is on the process's
@@ -98,9 +95,10 @@ impl ObjectTable {
             (local.deaths_go_of (local.at_name p o) s).deaths kind.now) }
     {
         match *kind {
-            WorkKind::Death(n) => {
-                !self.deaths.is_on(p, o, n) || self.deaths.stays(self.has_name(p, o), p, o, n)
-            }
+            WorkKind::Death(n) => match self.only_lost_death(p, o) {
+                Some(made) => n != made,
+                None => true,
+            },
             _ => true,
         }
     }

@@ -1,6 +1,5 @@
-use Rattle.std.proofs.Common.{◌≡◌, arith, subst, ◌++◌, [], ◌∷◌, take, append-nil, ap, sym, ◌∙◌, None}
+use Rattle.std.proofs.Common.{arith, subst, ◌++◌, take, append-nil, ap, sym, ◌∙◌, None}
 use Rattle.std.proofs.lemmas.List.{take_all}
-use Rattle.bd_ways.specs.Words.{Reference}
 use Rattle.bd_space.specs.Delivery.{buffer_references}
 use Rattle.bd_records.specs.Records.{RecordsAre, IsHomed}
 use Rattle.bd_objects.proofs.BufferReferences.{carried_more}

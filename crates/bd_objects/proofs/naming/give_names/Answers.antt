@@ -1,6 +1,5 @@
-use Rattle.std.proofs.Common.{◌∙◌, ◌++◌, false, sym, ap, subst, fold, take, arith}
+use Rattle.std.proofs.Common.{◌∙◌, ◌++◌, sym, ap, subst, fold, take, arith}
 use Rattle.std.proofs.lemmas.List.{take_all}
-use Rattle.bd_space.specs.References.{owned_in}
 use Rattle.bd_records.specs.{Records.{RecordsAre}, Since.{Since, Settled}}
 use Rattle.bd_objects.proofs.Giving.{give, give_next, give_all, past_all, owned_alike, owned_before}
 use Rattle.bd_objects.proofs.Results.{on_err, of_ok, of_err}

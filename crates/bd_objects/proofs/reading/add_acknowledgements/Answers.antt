@@ -1,4 +1,4 @@
-use Rattle.std.proofs.Common.{◌≡◌, ℕ, ◌+◌, ◌||◌, length, arith, Bool, true, false, List, [], ◌∷◌, ◌++◌, refl, ap, sym, subst, ◌∙◌, append_assoc, append-nil}
+use Rattle.std.proofs.Common.{◌≡◌, ℕ, ◌+◌, length, arith, Bool, true, false, List, [], ◌∷◌, ◌++◌, refl, sym, subst, append_assoc, append-nil}
 use Rattle.std.proofs.lemmas.Bool.{or_left, or_right}
 use Rattle.bd_ways.specs.Words.{Identity, Object, Reference, Handshake}
 use Rattle.bd_space.specs.References.{reference_of}

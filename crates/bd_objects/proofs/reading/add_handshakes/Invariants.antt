@@ -1,4 +1,4 @@
-use Rattle.std.proofs.Common.{◌≡◌, ◌+◌, ◌*◌, ◌≤◌, ◌++◌, take, length}
+use Rattle.std.proofs.Common.{◌≡◌, ◌*◌, ◌≤◌, ◌++◌, take, length}
 use Rattle.bd_space.specs.Space.{Space}
 use Rattle.bd_space.specs.ReadItems.{handshakes}
 use Rattle.bd_records.specs.{Records.{RecordsAre}, Since.{KeepsSettled}, Room.{Uses}}

@@ -1,4 +1,4 @@
-use Rattle.std.proofs.Common.{refl, sym, subst, arith}
+use Rattle.std.proofs.Common.{subst, arith}
 use Rattle.bd_records.specs.Records.{RecordsAre}
 use Rattle.bd_objects.proofs.Owners.{told_one, told_nobody}
 use Rattle.bd_objects.proofs.reading.tell_owner.Goals as goal

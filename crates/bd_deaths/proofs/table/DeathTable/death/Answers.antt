@@ -1,6 +1,12 @@
+use Rattle.std.proofs.Common.{sym, ◌∙◌, arith}
 use Rattle.bd_space.specs.Deaths.{is_notification}
-use Rattle.bd_deaths.proofs.Lives.{found_in}
+use Rattle.bd_deaths.proofs.Changes.{death_found, death_none}
 use Rattle.bd_deaths.proofs.table.DeathTable.death.Goals as goal
 
 pub returns : goal.returns
-returns c = λ l h. found_in (is_notification c.args.made) c.made_part.result.now l _ _ (c.made_part.ensures l h.are_in) c.made_in.ensures c.death_of.ensures
+returns c = λ l h.
+    c.in_slot.ensures ∙ death_found c.args.self.now l h (is_notification c.args.made) _ (sym (h.are.places_are c.args.made) ∙ sym (c.place.ensures l h) ∙ c.in_ok-place.was)
+
+pub returns-in_err-place : goal.returns-in_err-place
+returns-in_err-place c = λ l h.
+    grind (arith, c.from_residual.ensures, death_none c.args.self.now l h (is_notification c.args.made) (sym (h.are.places_are c.args.made) ∙ sym (c.place.ensures l h) ∙ c.in_err-place.was))

@@ -1,13 +1,43 @@
-use Rattle.std.proofs.Common.{refl}
-use Rattle.bd_space.specs.declared.space.Phase.TheVariants.{Told}
+use Rattle.std.proofs.Common.{◌≡◌, ℕ, ◌+◌, ◌<◌, ◌||◌, List, take, length, get_or, false, refl, sym, subst, ◌∙◌, arith}
+use Rattle.std.specs.Prelude.{◌==◌}
+use Rattle.std.proofs.lemmas.List.{take_all}
+use Rattle.std.proofs.lemmas.List.Folds.{list_any_more}
+use Rattle.bd_space.specs.Words.{changed, is_some_and}
+use Rattle.bd_space.specs.Todo.{death_of}
 use Rattle.bd_space.specs.ReadItems.{is_told_of_death}
+use Rattle.bd_space.specs.declared.space.Work.{Work}
 use Rattle.bd_space.specs.declared.space.DeathNotification.{DeathNotification}
-use Rattle.bd_deaths.proofs.Listed.{listed_changed}
+use Rattle.bd_space.specs.declared.space.Phase.TheVariants.{Told}
+use Rattle.bd_deaths.specs.Stands.{DeathsAre}
+use Rattle.bd_deaths.proofs.Tests.{none, same_tests, twice}
+use Rattle.bd_keys.proofs.Tables.{uses_none, uses_then}
 use Rattle.bd_deaths.proofs.table.DeathTable.read.Goals as goal
 
-pub returns-clause-stands : goal.returns-clause-stands
-returns-clause-stands c = λ l h. record {
-  are_in = c.read.ensures.stands l h.are_in;
-  listed = listed_changed c.args.self.now.groups (is_told_of_death c.args.taken.now) (λ (x : DeathNotification). record x { phase = Told })
-      (λ x. record { made = refl; process = refl; object = refl; cookie = refl }) l h.listed;
+pub loop-w-init : goal.loop-w-init
+loop-w-init c = record {
+  so_far = λ xs h. subst (DeathsAre c.args.self.now) (sym (none (λ (x : DeathNotification). record x { phase = Told }) (λ x. false) xs (λ x. refl))) h;
+  uses = uses_none c.args.self.now;
 }
+
+-- one more item
+read-next : (ws : List Work) (k : ℕ) (d : Work) (xs : List DeathNotification) → k < length ws
+    → changed (λ x. is_some_and (death_of (get_or ws k d).kind) (λ n. n == x.made)) (λ x. record x { phase = Told })
+    (changed (is_told_of_death (take k ws)) (λ x. record x { phase = Told }) xs)
+    ≡ changed (is_told_of_death (take (k + 1) ws)) (λ x. record x { phase = Told }) xs
+read-next ws k d xs h =
+    let told = λ (x : DeathNotification). record x { phase = Told } in
+    let here = λ (x : DeathNotification). is_some_and (death_of (get_or ws k d).kind) (λ n. n == x.made) in
+    twice told here (is_told_of_death (take k ws)) xs (λ x. refl) (λ x. refl)
+    ∙ same_tests told (λ x. is_told_of_death (take k ws) x || here x) (is_told_of_death (take (k + 1) ws)) xs
+    (λ x. sym (list_any_more (λ (w : Work). is_some_and (death_of w.kind) (λ n. n == x.made)) ws k d h))
+
+pub loop-w-preserved : goal.loop-w-preserved
+loop-w-preserved c = record {
+  so_far = λ xs h.
+      subst (DeathsAre c.read_one.new.self) (read-next c.args.taken.now c.loop-w.w-index _ xs c.loop-w-test.true) (c.read_one.ensures.stands _ (c.loop-w.invariant.so_far xs h));
+  uses = uses_then c.loop-w.invariant.uses c.read_one.ensures.uses;
+}
+
+pub returns-clause-stands : goal.returns-clause-stands
+returns-clause-stands c = λ l h.
+    subst (λ ws. DeathsAre c.loop-w.self (changed (is_told_of_death ws) (λ x. record x { phase = Told }) l)) (take_all c.loop-w.w-index c.args.taken.now (omega arith)) (c.loop-w.invariant.so_far l h)

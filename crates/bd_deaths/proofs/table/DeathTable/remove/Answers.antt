@@ -1,11 +1,35 @@
-use Rattle.std.proofs.Common.{not}
-use Rattle.std.proofs.lemmas.List.Elements.{All-filter}
-use Rattle.bd_space.specs.Deaths.{is_notification}
-use Rattle.bd_deaths.specs.Listed.{IsListed}
+use Rattle.std.specs.HashMap.{get_by}
+use Rattle.slab.specs.Slab.{get}
+use Rattle.std.specs.Prelude.{option_map}
+use Rattle.std.proofs.Common.{◌≡◌, ◌==◌, Bool, true, false, cond, Option, None, eqb-true, ℕ, refl, sym, ap, subst, ◌∙◌, arith}
+use Rattle.bd_deaths.specs.{Entries.{place_at}, Stands.{DeathsAre}}
+use Rattle.bd_deaths.specs.declared.table.DeathTable.{DeathTable}
+use Rattle.bd_deaths.proofs.Changes.{uses_less, deaths_removed, none_goes, nothing_kept, deaths_kept}
 use Rattle.bd_deaths.proofs.table.DeathTable.remove.Goals as goal
 
-pub returns-clause-stands : goal.returns-clause-stands
-returns-clause-stands c = λ l h. record {
-  are_in = c.remove.ensures.stands l h.are_in;
-  listed = All-filter (λ x. not (is_notification c.args.made x)) (IsListed c.args.self.now.groups) l h.listed;
-}
+pub returns-in-Some-take_slot-clause-stands : goal.returns-in-Some-take_slot-clause-stands
+returns-in-Some-take_slot-clause-stands c = λ l h.
+    deaths_removed c.args.self.now c.leave.new.self c.args.made c.in-Some.at c.in-Some-take_slot.kept l
+    (sym c.forget_place.ensures.value ∙ c.in-Some.is) (sym c.take_slot.ensures.value ∙ c.in-Some-take_slot.is)
+    c.leave.ensures.objects c.leave.ensures.processes
+    (λ k. ap (λ s. get s k) c.leave.ensures.slots ∙ c.take_slot.ensures.gone k) (λ m. ap (λ ps. get_by (λ k. m == k) ps) c.leave.ensures.places ∙ c.forget_place.ensures.gone m) c.leave.ensures.names c.leave.ensures.next h
+
+pub returns-in_default-take_slot-clause-stands : goal.returns-in_default-take_slot-clause-stands
+returns-in_default-take_slot-clause-stands c = λ l h.
+    nothing_kept (λ k. k) c.args.self.now c.args.made c.in-Some.at l h (sym c.forget_place.ensures.value ∙ c.in-Some.is) (ap (option_map (λ k. k)) (sym c.take_slot.ensures.value ∙ c.in_default-take_slot.is))
+
+absent : (t : DeathTable) (made : ℕ) → place_at t made ≡ None → {f : ℕ → Option ℕ} → ((m : ℕ) → f m ≡ cond (made == m) None (place_at t m)) → (m : ℕ) → f m ≡ place_at t m
+absent t made none gone m = gone m ∙ at (made == m) refl
+  where
+    at : (b : Bool) → (made == m) ≡ b → cond b None (place_at t m) ≡ place_at t m
+    at true e = sym none ∙ ap (place_at t) (eqb-true made m e)
+    at false e = refl
+
+pub returns-in_default-clause-stands : goal.returns-in_default-clause-stands
+returns-in_default-clause-stands c = λ l h.
+    let none = sym c.forget_place.ensures.value ∙ c.in_default.is in
+    subst (DeathsAre _) (sym (none_goes c.args.self.now c.args.made l h none)) (deaths_kept c.args.self.now _ l (λ rs s. s) (λ rs s. s) (λ k. refl) (absent c.args.self.now c.args.made none c.forget_place.ensures.gone) (λ k. refl) refl h)
+
+pub returns-in_default-take_slot-clause-uses : goal.returns-in_default-take_slot-clause-uses
+returns-in_default-take_slot-clause-uses c =
+    uses_less c.args.self.now _ (let e = c.take_slot.ensures.capacity in omega (arith, e)) c.take_slot.ensures.len refl (omega arith) (omega arith) c.forget_place.ensures.room (omega arith)

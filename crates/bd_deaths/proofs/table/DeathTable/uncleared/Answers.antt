@@ -1,9 +1,19 @@
+use Rattle.std.proofs.Common.{sym, ap, ◌∙◌, arith}
+use Rattle.std.specs.Prelude.{option_map}
 use Rattle.bd_space.specs.Deaths.{is_uncleared_on}
-use Rattle.bd_deaths.proofs.Lives.{found_in}
-use Rattle.bd_deaths.proofs.Only.{on_name}
+use Rattle.bd_deaths.specs.declared.key.NameKey.{NameKey}
+use Rattle.bd_deaths.specs.Entries.{at_of, death_of}
+use Rattle.bd_deaths.proofs.Changes.{death_found, death_none, find_same, asks_uncleared}
 use Rattle.bd_deaths.proofs.table.DeathTable.uncleared.Goals as goal
 
 pub returns : goal.returns
 returns c = λ l h.
-    let part = on_name c.args.p c.args.o _ _ l c.name_key.ensures (c.key_part.ensures l h.are_in) in
-    found_in (is_uncleared_on c.args.p c.args.o) c.key_part.result.now l _ _ part c.uncleared_in.ensures c.death_of.ensures
+    let k : NameKey = record { process = c.args.p; object = c.args.object } in
+    let same = ap (option_map at_of) (find_same _ _ (λ e. asks_uncleared k (death_of e)) h.entries) in
+    c.in_slot.ensures ∙ death_found c.args.self.now l h (is_uncleared_on c.args.p c.args.object) _ (sym same ∙ sym (h.are.names_are k) ∙ sym c.slot_on.ensures ∙ c.in_ok-slot_on.was)
+
+pub returns-in_err-slot_on : goal.returns-in_err-slot_on
+returns-in_err-slot_on c = λ l h.
+    let k : NameKey = record { process = c.args.p; object = c.args.object } in
+    let same = ap (option_map at_of) (find_same _ _ (λ e. asks_uncleared k (death_of e)) h.entries) in
+    grind (arith, c.from_residual.ensures, death_none c.args.self.now l h (is_uncleared_on c.args.p c.args.object) (sym same ∙ sym (h.are.names_are k) ∙ sym c.slot_on.ensures ∙ c.in_err-slot_on.was))

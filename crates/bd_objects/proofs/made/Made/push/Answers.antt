@@ -1,4 +1,4 @@
-use Rattle.std.proofs.Common.{◌≡◌, ◌≤◌, ◌||◌, ◌∷◌, [], nat_lt, true, false, length, vec_len, arith, ap, sym, ◌∙◌, length-append}
+use Rattle.std.proofs.Common.{◌≡◌, ◌≤◌, ◌||◌, ◌∷◌, [], nat_lt, length, vec_len, arith, ap, sym, ◌∙◌, length-append}
 use Rattle.bd_objects.specs.Later.{few}
 use Rattle.bd_objects.proofs.Later.{finds_all, finds_more, low_push, all_first, all_rise, still_rise}
 use Rattle.bd_objects.proofs.made.Made.push.Goals as goal

@@ -1,7 +1,7 @@
-use Rattle.std.proofs.Common.{◌≡◌, ◌∙◌, [], ◌∷◌, ◌++◌, true, is_some, refl, sym, ap, subst, arith}
+use Rattle.std.proofs.Common.{◌∙◌, [], ◌∷◌, ◌++◌, refl, sym, ap, subst, arith}
 use Rattle.bd_space.specs.declared.space.Holder.TheVariants.{Asked}
 use Rattle.bd_space.specs.References.{reference_of}
-use Rattle.bd_space.specs.Names.{is_managers, assign_numbers, names_go, number_in}
+use Rattle.bd_space.specs.Names.{is_managers, assign_numbers, names_go}
 use Rattle.bd_space.specs.Asking.{ask}
 use Rattle.bd_records.specs.{Records.{RecordsAre}, Since.{Settled}}
 use Rattle.bd_records.specs.Numbers.{IsFull}

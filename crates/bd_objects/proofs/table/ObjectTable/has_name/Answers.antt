@@ -1,6 +1,5 @@
-use Rattle.std.proofs.Common.{◌≡◌, ◌||◌, Bool, true, false, cond, List, [], ◌∷◌, Some, find, refl, ap, sym, ◌∙◌}
-use Rattle.std.specs.List.{list_any}
-use Rattle.std.specs.Option.{option_map, is_some}
+use Rattle.std.proofs.Common.{ap, sym, ◌∙◌}
+use Rattle.std.specs.Option.{is_some}
 use Rattle.bd_space.specs.declared.space.Name.{Name}
 use Rattle.bd_records.specs.Sound.{has_object}
 use Rattle.bd_records.proofs.Freeing.{any_is_some}

@@ -1,4 +1,4 @@
-use Rattle.std.proofs.Common.{◌≡◌, ℕ, true, None, List, [], ◌∷◌, ◌++◌, refl, ap, sym, subst, ◌∙◌, arith}
+use Rattle.std.proofs.Common.{ℕ, true, [], ◌∷◌, ◌++◌, refl, ap, sym, subst, ◌∙◌, arith}
 use Rattle.bd_ways.specs.Words.{Identity, Object, Reference, Manager}
 use Rattle.bd_space.specs.References.{object_in, reference_of}
 use Rattle.bd_space.specs.Steps.{with_manager}

@@ -1,0 +1,50 @@
+-- What is found along a process's list, and what is kept of each.
+use Rattle.std.proofs.Common.{◌≡◌, ℕ, ◌==◌, Bool, true, false, cond, List, [], ◌∷◌, find, filter, map, Option, Some, refl, sym, ap, ◌∙◌, arith, All, eqb-true}
+use Rattle.std.specs.{Prelude.{option_map, get_or}}
+use Rattle.std.proofs.lemmas.Bool.{eq-eqb, ne_eqb}
+use Rattle.std.proofs.lemmas.List.Elements.{All-head, All-tail, All-cons}
+use Rattle.bd_space.specs.Deaths.{is_told_with}
+use Rattle.bd_keys.proofs.{Rising.{Distinct, has, pairs_head, pairs_tail}, Lists.{eqb_turned}}
+use Rattle.bd_chains.specs.Rows.{values_on, on_some}
+use Rattle.bd_chains.proofs.Listing.{on_list}
+use Rattle.bd_deaths.specs.declared.{kept.Mark.{Mark}, table.DeathTable.{DeathTable}}
+use Rattle.bd_deaths.specs.Entries.{Entry, EntriesAre, death_of, at_of, kept_of, mark_of, process_row, by_process, same_process, process_number, kept_at, is_told_in, first_at}
+use Rattle.bd_deaths.proofs.{Ending.{values_of}, Changes.{by_slot}}
+
+-- each is found by its slot
+self_found : (es : List Entry) → Distinct at_of es → All (λ e. find (has at_of (at_of e)) es ≡ Some e) es
+self_found [] distinct = λ k d h. absurd (omega arith)
+self_found (x ∷ es) distinct =
+    All-cons (λ e. find (has at_of (at_of e)) (x ∷ es) ≡ Some e) x es
+    (rw (eq-eqb (at_of x) (at_of x) refl) refl)
+    (λ k d h.
+    let far = ne_eqb (at_of x) (at_of (get_or es k d)) (pairs_head (λ a b. at_of a ≡ at_of b → ⊥) x es distinct k d h) in
+    rw far (self_found es (pairs_tail (λ a b. at_of a ≡ at_of b → ⊥) x es distinct) k d h))
+
+pub all_kept : (t : DeathTable) (es : List Entry) → EntriesAre t es → All (λ e. kept_at t (at_of e) ≡ Some e.kept) es
+all_kept t es h k d lt = h.slots_are (at_of (get_or es k d)) ∙ ap (option_map kept_of) (self_found es (by_slot es h.apart) k d lt)
+
+-- the marks of a process are those of its entries
+pub marks_are : (t : DeathTable) (p : ℕ) (es : List Entry) → EntriesAre t es → (n : Option ℕ) → process_number t p ≡ n → on_some [] values_on n (map process_row es) ≡ filter (λ m. same_process p (by_process m)) (map mark_of es)
+marks_are t p es h n is =
+    sym (on_list by_process (λ _. false) same_process (process_number t) t.processes.chains (λ k l e. ap (process_number t) (eqb-true k l e)) (map process_row es) h.of_processes p n is (map process_row es) h.of_processes.listed)
+    ∙ ap (filter (λ m. same_process p (by_process m))) (values_of process_row es)
+
+pub first_is : (t : DeathTable) (p cookie : ℕ) (es : List Entry) → All (λ e. kept_at t (at_of e) ≡ Some e.kept) es
+    → first_at (is_told_in t p cookie) (filter (λ m. same_process p (by_process m)) (map mark_of es)) ≡ option_map at_of (find (λ e. is_told_with p cookie (death_of e)) es)
+first_is t p cookie [] all = refl
+first_is t p cookie (e ∷ es) all =
+    let here = All-head (λ e. kept_at t (at_of e) ≡ Some e.kept) e es all in
+    let rest = first_is t p cookie es (All-tail (λ e. kept_at t (at_of e) ≡ Some e.kept) e es all) in
+    at (p == (death_of e).process) (is_told_with p cookie (death_of e)) refl refl here rest
+  where
+    more : List Entry → List Mark
+    more es = filter (λ m. same_process p (by_process m)) (map mark_of es)
+
+    at : (a b : Bool) → (p == (death_of e).process) ≡ a → is_told_with p cookie (death_of e) ≡ b → kept_at t (at_of e) ≡ Some e.kept
+        → first_at (is_told_in t p cookie) (more es) ≡ option_map at_of (find (λ e. is_told_with p cookie (death_of e)) es)
+        → first_at (is_told_in t p cookie) (cond a (mark_of e ∷ more es) (more es)) ≡ option_map at_of (cond b (Some e) (find (λ e. is_told_with p cookie (death_of e)) es))
+    at true true f g here rest = rw (here, g) refl
+    at true false f g here rest = rw (here, g) rest
+    at false true f g here rest = let own = eqb_turned p (death_of e).process in grind (arith, own, f, g)
+    at false false f g here rest = rest

@@ -1,0 +1,6 @@
+use Rattle.std.proofs.Common.{◌≡◌, ◌++◌, drop}
+use Rattle.bd_deaths.specs.Numbers.{deaths_at}
+use Rattle.bd_deaths.proofs.table.DeathTable.deaths_of.Given as goal
+
+abbrev pub invariant-loop-n : goal.invariant-loop-n
+invariant-loop-n l = l.told.items ++ deaths_at l.self (drop l.n-index l.found) ≡ deaths_at l.self l.found

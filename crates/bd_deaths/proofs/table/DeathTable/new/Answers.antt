@@ -1,0 +1,18 @@
+use Rattle.std.proofs.Common.{[], false, refl, arith}
+use Rattle.bd_deaths.specs.Entries.{by_object, by_process}
+use Rattle.bd_deaths.proofs.table.DeathTable.new.Goals as goal
+
+pub returns : goal.returns
+returns c = record {
+  entries = [];
+  are = record {
+    on_objects = c.new-3.ensures c.new-2.ensures by_object (λ _. false);
+    of_processes = c.new-5.ensures c.new-4.ensures by_process (λ _. false);
+    slots_are = λ k. grind arith;
+    places_are = λ m. grind arith;
+    names_are = λ k. grind arith;
+    apart = λ i j d lt h. absurd (omega arith);
+    fit = λ k d h. absurd (omega arith);
+  };
+  deaths_are = refl;
+}

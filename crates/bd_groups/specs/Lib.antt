@@ -1,3 +1,0 @@
-pub mod Group
-pub mod Trail
-pub mod Members
