@@ -11,7 +11,8 @@ use Rattle.bd_chains.proofs.Rowing.{drop_none}
 use Rattle.bd_keys.proofs.Rising.{rest_differ}
 use Rattle.bd_deaths.specs.{declared.key.NameKey.{NameKey}, declared.kept.Kept.{Kept}, declared.kept.Watch.{Watch}, declared.kept.Mark.{Mark}, declared.table.DeathTable.{DeathTable}}
 use Rattle.bd_deaths.specs.Entries.{Entry, EntriesAre, Apart, Fits, ObjectsShow, ProcessesShow, death_of, made_of, at_of, kept_of, object_row, process_row, asks_on, kept_at, place_at, name_at}
-use Rattle.bd_deaths.specs.Stands.{DeathsAre}
+use Rattle.bd_keys.specs.Look.{word_room}
+use Rattle.bd_deaths.specs.{Stands.{DeathsAre}, Shared.{AreShared}}
 use Rattle.bd_space.specs.Deaths.{uncleared_in, is_uncleared_on}
 use Rattle.bd_deaths.specs.Entries.{name_of, same_name}
 use Rattle.std.specs.Prelude.{get_or, min, ◌-◌}
@@ -21,7 +22,7 @@ use Rattle.bd_space.specs.Words.{same, is_some_and}
 use Rattle.bd_space.proofs.Identities.{same_eq}
 use Rattle.bd_deaths.specs.Room.{Uses, death_room, death_count}
 use Rattle.bd_chains.specs.Lists.{lists_room}
-use Rattle.bd_deaths.proofs.Indexed.{Once, found_once, shown_more, shown_less}
+use Rattle.bd_deaths.proofs.{Indexed.{Once, found_once, shown_more, shown_less}, Sharing.{distinct_mapped}}
 
 pub filter_map : {A B : Type 0} (f : A → B) (p : B → Bool) (xs : List A) → map f (filter (λ x. p (f x)) xs) ≡ filter p (map f xs)
 filter_map f p [] = refl
@@ -53,10 +54,10 @@ less c d l m e f = omega arith
 pub uses_less : (t u : DeathTable) → t.slots.capacity ≤ u.slots.capacity → slab_len u.slots ≤ slab_len t.slots → u.next ≡ t.next
     → lists_room t.objects.chains (spare t.objects.numbers.all) ≤ lists_room u.objects.chains (spare u.objects.numbers.all)
     → lists_room t.processes.chains (spare t.processes.numbers.all) ≤ lists_room u.processes.chains (spare u.processes.numbers.all)
-    → spare t.places ≤ spare u.places → spare t.names ≤ spare u.names → Uses t u 0
+    → spare t.places ≤ spare u.places → spare t.names ≤ spare u.names → word_room t.cookies ≤ word_room u.cookies → Uses t u 0
 unfolding death_room death_count
-uses_less t u capacity len next objects processes places names = record {
-  room = let more = both _ _ _ _ (both _ _ _ _ (less _ _ _ _ capacity len) (less _ _ _ _ (refl_le 18446744073709551615) (eq_le next))) (both _ _ _ _ (both _ _ _ _ objects processes) (both _ _ _ _ places names)) in omega (arith, more);
+uses_less t u capacity len next objects processes places names cookies = record {
+  room = let more = both _ _ _ _ (both _ _ _ _ (less _ _ _ _ capacity len) (less _ _ _ _ (refl_le 18446744073709551615) (eq_le next))) (both _ _ _ _ (both _ _ _ _ objects processes) (both _ _ _ _ places (both _ _ _ _ names cookies))) in omega (arith, more);
   count = omega (arith, len);
 }
   where
@@ -137,11 +138,13 @@ entries_kept t u es objects processes slots places names next h = record {
 }
 
 pub deaths_kept : (t u : DeathTable) (l : List DeathNotification) → ((rs : List (Row Watch)) → ObjectsShow t rs → ObjectsShow u rs) → ((rs : List (Row Mark)) → ProcessesShow t rs → ProcessesShow u rs)
-    → ((k : ℕ) → kept_at u k ≡ kept_at t k) → ((m : ℕ) → place_at u m ≡ place_at t m) → ((k : NameKey) → name_at u k ≡ name_at t k) → u.next ≡ t.next → DeathsAre t l → DeathsAre u l
-deaths_kept t u l objects processes slots places names next h = record {
+    → ((k : ℕ) → kept_at u k ≡ kept_at t k) → ((m : ℕ) → place_at u m ≡ place_at t m) → ((k : NameKey) → name_at u k ≡ name_at t k) → u.next ≡ t.next → (AreShared t.cookies l → AreShared u.cookies l)
+    → DeathsAre t l → DeathsAre u l
+deaths_kept t u l objects processes slots places names next shared h = record {
   entries = h.entries;
   are = entries_kept t u h.entries objects processes slots places names next h.are;
   deaths_are = h.deaths_are;
+  shared = shared h.shared;
 }
 
 -- ---- one goes
@@ -150,8 +153,8 @@ pub deaths_removed : (t u : DeathTable) (made at : ℕ) (kept : Kept) (l : List 
     → ((rs : List (Row Watch)) → ObjectsShow t rs → ObjectsShow u (drop_key kept.object rs)) → ((rs : List (Row Mark)) → ProcessesShow t rs → ProcessesShow u (drop_key kept.process rs))
     → ((k : ℕ) → kept_at u k ≡ cond (at == k) None (kept_at t k)) → ((m : ℕ) → place_at u m ≡ cond (made == m) None (place_at t m))
     → ((k : NameKey) → name_at u k ≡ cond (asks_on k kept.death) None (name_at t k)) → u.next ≡ t.next
-    → DeathsAre t l → DeathsAre u (filter (λ x. not (is_notification made x)) l)
-deaths_removed t u made at kept l place there objects processes slots places names next h =
+    → AreShared u.cookies (filter (λ x. not (is_notification made x)) l) → DeathsAre t l → DeathsAre u (filter (λ x. not (is_notification made x)) l)
+deaths_removed t u made at kept l place there objects processes slots places names next shared h =
     let es = h.entries in
     let f = found t es (has made_of made) at h.are (sym (h.are.places_are made) ∙ place) in
     let e = f.entry in
@@ -175,6 +178,7 @@ deaths_removed t u made at kept l place there objects processes slots places nam
         fit = All-filter (λ e. not (has made_of made e)) (Fits u.next) es (subst (λ n. All (Fits n) es) (sym next) h.are.fit);
       };
       deaths_are = filter_map death_of (λ x. not (x.made == made)) es ∙ ap (filter (λ x. not (x.made == made))) h.deaths_are;
+      shared = shared;
     }
   where
     some_is : {a b : Kept} → Some a ≡ Some b → a ≡ b
@@ -246,8 +250,9 @@ module _ (t : DeathTable) (x : DeathNotification) (at object process : ℕ) (l :
       → ((rs : List (Row Watch)) → ObjectsShow t rs → (n : ℕ) × ObjectsShow u (rs ++ record { key = object; list = n; held = record { value = record { object = x.object; at = at }; counted = false } } ∷ []))
       → ((rs : List (Row Mark)) → ProcessesShow t rs → (n : ℕ) × ProcessesShow u (rs ++ record { key = process; list = n; held = record { value = record { process = x.process; made = x.made; at = at }; counted = false } } ∷ []))
       → ((k : ℕ) → kept_at u k ≡ cond (at == k) (Some kept) (kept_at t k)) → ((m : ℕ) → place_at u m ≡ cond (x.made == m) (Some at) (place_at t m))
-      → ((k : NameKey) → name_at u k ≡ cond (same_name (name_of x) k) (Some at) (name_at t k)) → u.next ≡ t.next + 1 → DeathsAre u (l ++ x ∷ [])
-  deaths_pushed u objects processes slots places names next =
+      → ((k : NameKey) → name_at u k ≡ cond (same_name (name_of x) k) (Some at) (name_at t k)) → u.next ≡ t.next + 1
+      → AreShared u.cookies (l ++ x ∷ []) → DeathsAre u (l ++ x ∷ [])
+  deaths_pushed u objects processes slots places names next shared =
       let o = objects (map object_row es) h.are.on_objects in
       let p = processes (map process_row es) h.are.of_processes in
       let e : Entry = record { kept = kept; at = at; object = o.0; process = p.0 } in
@@ -270,6 +275,7 @@ module _ (t : DeathTable) (x : DeathNotification) (at object process : ℕ) (l :
               (record { serial = omega arith; at = fits }));
         };
         deaths_are = map-append death_of es (e ∷ []) ∙ ap (λ xs. xs ++ x ∷ []) h.deaths_are;
+        shared = shared;
       }
 
 -- ---- what is found
@@ -293,3 +299,13 @@ guessed t m l h at is = of (find (λ e. at_of e == at) h.entries) refl (ap (λ o
     of (Some e) f k =
         let slot = eqb-true (at_of e) at (found_passes (λ e. at_of e == at) h.entries e f) in
         ap (λ n. Some n) (sym slot) ∙ sym (ap (option_map at_of) (found_once (has made_of m) (λ e. at_of e == at) h.entries e (once_place h.entries h.are.apart m) f k)) ∙ sym (h.are.places_are m)
+
+-- ---- those of a table by where they were made
+
+pub made_apart : (t : DeathTable) (l : List DeathNotification) → DeathsAre t l → Distinct (λ (x : DeathNotification). x.made) l
+made_apart t l h = subst (λ xs. Distinct (λ (x : DeathNotification). x.made) xs) h.deaths_are (distinct_mapped (λ (x : DeathNotification). x.made) death_of h.entries (by_place h.entries h.are.apart))
+
+-- the one of a place is what is kept in its slot
+pub made_there : (t : DeathTable) (made at : ℕ) (x : DeathNotification) (l : List DeathNotification) → DeathsAre t l → place_at t made ≡ Some at
+    → option_map (λ k. k.death) (kept_at t at) ≡ Some x → find (is_notification made) l ≡ Some x
+made_there t made at x l h place there = sym (death_found t l h (is_notification made) at (sym (h.are.places_are made) ∙ place)) ∙ there

@@ -1,4 +1,5 @@
 pub mod Indexed
+pub mod Sharing
 pub mod Changes
 pub mod Ending
 pub mod Turning

@@ -1,6 +1,6 @@
 -- What is found along a process's list, and what is kept of each.
-use Rattle.std.proofs.Common.{◌≡◌, ℕ, ◌==◌, Bool, true, false, cond, List, [], ◌∷◌, find, filter, map, Option, Some, refl, sym, ap, ◌∙◌, arith, All, eqb-true}
-use Rattle.std.specs.{Prelude.{option_map, get_or}}
+use Rattle.std.proofs.Common.{◌≡◌, ℕ, ◌==◌, Bool, true, false, cond, List, [], ◌∷◌, find, filter, map, Option, Some, None, refl, sym, ap, ◌∙◌, arith, All, eqb-true}
+use Rattle.std.specs.{Prelude.{option_map, get_or, count_by}}
 use Rattle.std.proofs.lemmas.Bool.{eq-eqb, ne_eqb}
 use Rattle.std.proofs.lemmas.List.Elements.{All-head, All-tail, All-cons}
 use Rattle.bd_space.specs.Deaths.{is_told_with}
@@ -9,7 +9,12 @@ use Rattle.bd_chains.specs.Rows.{values_on, on_some}
 use Rattle.bd_chains.proofs.Listing.{on_list}
 use Rattle.bd_deaths.specs.declared.{kept.Mark.{Mark}, table.DeathTable.{DeathTable}}
 use Rattle.bd_deaths.specs.Entries.{Entry, EntriesAre, death_of, at_of, kept_of, mark_of, process_row, by_process, same_process, process_number, kept_at, is_told_in, first_at}
-use Rattle.bd_deaths.proofs.{Ending.{values_of}, Changes.{by_slot}}
+use Rattle.bd_ways.specs.Words.{DeathNotification}
+use Rattle.bd_space.specs.Words.{is_some_and}
+use Rattle.bd_keys.proofs.Found.{found_passes}
+use Rattle.bd_keys.specs.declared.key.WordKey.{WordKey}
+use Rattle.bd_deaths.specs.{Stands.{DeathsAre}, Shared.{told_at}}
+use Rattle.bd_deaths.proofs.{Ending.{values_of}, Changes.{by_slot}, Sharing.{told_with, only_counted}, Only.{count_map}}
 
 -- each is found by its slot
 self_found : (es : List Entry) → Distinct at_of es → All (λ e. find (has at_of (at_of e)) es ≡ Some e) es
@@ -48,3 +53,24 @@ first_is t p cookie (e ∷ es) all =
     at true false f g here rest = rw (here, g) rest
     at false true f g here rest = let own = eqb_turned p (death_of e).process in grind (arith, own, f, g)
     at false false f g here rest = rest
+
+-- ---- how many are told with a cookie
+
+module _ (t : DeathTable) (p cookie : ℕ) (l : List DeathNotification) (h : DeathsAre t l) where
+  abbrev pub is_it : Entry → Bool
+  is_it e = is_told_with p cookie (death_of e)
+
+  pub told_count : told_at t.cookies (record { process = p; word = cookie }) ≡ count_by is_it h.entries
+  told_count =
+      let k : WordKey = record { process = p; word = cookie } in
+      h.shared.tolds k ∙ (λ i. count_by (λ x. told_with k x i) l) ∙ ap (count_by (is_told_with p cookie)) (sym h.deaths_are) ∙ count_map (is_told_with p cookie) h.entries
+
+  -- the only one is where one is
+  pub only_told : (at : ℕ) → count_by is_it h.entries ≡ 1 → is_told_in t p cookie at ≡ true → Some at ≡ option_map at_of (find is_it h.entries)
+  only_told at one is = of (find (has at_of at) h.entries) refl (ap (λ o. is_some_and o (λ k. is_told_with p cookie k.death)) (sym (h.are.slots_are at)) ∙ is)
+    where
+      of : (o : Option Entry) → find (has at_of at) h.entries ≡ o → is_some_and (option_map kept_of o) (λ k. is_told_with p cookie k.death) ≡ true → Some at ≡ option_map at_of (find is_it h.entries)
+      of None f k = absurd cc
+      of (Some e) f k =
+          ap (λ n. Some n) (sym (eqb-true (at_of e) at (found_passes (has at_of at) h.entries e f)))
+          ∙ sym (ap (option_map at_of) (only_counted (has at_of at) is_it h.entries e one f k))

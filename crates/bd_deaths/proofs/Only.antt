@@ -1,7 +1,6 @@
 -- The one uncleared notification on a name.
 use Rattle.std.proofs.Common.{◌≡◌, ℕ, ◌==◌, ◌+◌, Bool, true, false, not, ◌&&◌, ◌||◌, cond, List, [], ◌∷◌, find, filter, map, Option, Some, None, refl, sym, ap, ◌∙◌, arith, All}
 use Rattle.std.specs.{Prelude.{option_map, count_by, get_or}}
-use Rattle.std.proofs.lemmas.List.Sums.{sum_by-cons}
 use Rattle.std.proofs.lemmas.Bool.{eq-eqb, false_from_ne_true}
 use Rattle.std.proofs.lemmas.List.Elements.{All-head, All-tail, All-cons}
 use Rattle.bd_ways.specs.Words.{DeathNotification, Identity}
@@ -10,7 +9,7 @@ use Rattle.bd_ways.specs.Local.{at_name}
 use Rattle.bd_keys.proofs.{Rising.{pairs_head, pairs_tail}, Found.{found_passes, none_found}}
 use Rattle.bd_deaths.specs.{declared.key.NameKey.{NameKey}, declared.table.DeathTable.{DeathTable}, Only.{only_uncleared_in}, Stands.{DeathsAre}}
 use Rattle.bd_deaths.specs.Entries.{Entry, death_of, made_of, asks_on}
-use Rattle.bd_deaths.proofs.{Indexed.{Once, found_once, later_off}, Changes.{filter_map, find_map, find_same, asks_uncleared, once_place, once_name}}
+use Rattle.bd_deaths.proofs.{Sharing.{count_cons}, Indexed.{Once, found_once, later_off}, Changes.{filter_map, find_map, find_same, asks_uncleared, once_place, once_name}}
 
 module _ {A : Type 0} where
   -- two tests that at most one passes, and of which both find the same one
@@ -37,9 +36,6 @@ module _ {A : Type 0} where
   filter_same p q [] all = refl
   filter_same p q (x ∷ xs) all = (λ i. cond (All-head (λ x. p x ≡ q x) x xs all i) (x ∷ filter_same p q xs (All-tail (λ x. p x ≡ q x) x xs all) i) (filter_same p q xs (All-tail (λ x. p x ≡ q x) x xs all) i))
 
-  count_cons : (q : A → Bool) (x : A) (xs : List A) (b : Bool) → q x ≡ b → count_by q (x ∷ xs) ≡ cond b 1 0 + count_by q xs
-  count_cons q x xs b e = sum_by-cons (λ y. cond (q y) 1 0) x xs ∙ ap (λ c. cond c 1 0 + count_by q xs) e
-
   count_none : (q : A → Bool) (xs : List A) → find q xs ≡ None → count_by q xs ≡ 0
   count_none q [] f = refl
   count_none q (x ∷ xs) f = at (q x) refl f (count_none q xs)
@@ -56,7 +52,7 @@ module _ {A : Type 0} where
       at true e f rest = let a = count_cons q x xs true e in let r = count_none q xs (later_off q x xs once e) in omega (arith, a, r)
       at false e f rest = let a = count_cons q x xs false e in let r = rest f in omega (arith, a, r)
 
-count_map : (q : DeathNotification → Bool) (es : List Entry) → count_by q (map death_of es) ≡ count_by (λ e. q (death_of e)) es
+pub count_map : (q : DeathNotification → Bool) (es : List Entry) → count_by q (map death_of es) ≡ count_by (λ e. q (death_of e)) es
 count_map q [] = refl
 count_map q (e ∷ es) =
     count_cons q (death_of e) (map death_of es) (q (death_of e)) refl ∙ ap (λ n. cond (q (death_of e)) 1 0 + n) (count_map q es) ∙ sym (count_cons (λ e. q (death_of e)) e es (q (death_of e)) refl)

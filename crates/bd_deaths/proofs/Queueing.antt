@@ -13,6 +13,11 @@ use Rattle.bd_ways.specs.Words.{Identity, Object, DeathNotification, Queued, cha
 use Rattle.bd_ways.specs.Local.{is_among}
 use Rattle.bd_space.specs.{Words.{same}, References.{owned_in}, ProcessExits.{is_armed}}
 use Rattle.bd_space.proofs.Identities.{same_eq, same_turned}
+use Rattle.bd_keys.specs.declared.key.WordKey.{WordKey}
+use Rattle.bd_ways.specs.Words.{Phase}
+use Rattle.bd_space.specs.declared.space.Phase.TheVariants.{Armed, Told, Done}
+use Rattle.bd_space.specs.Deaths.{is_told}
+use Rattle.bd_deaths.specs.Shared.{is_told_of, has_cookie}
 use Rattle.bd_keys.proofs.{Rising.{Distinct, has, pairs_tail, rest_differ}}
 use Rattle.bd_chains.specs.Rows.{values_on, on_some}
 use Rattle.bd_chains.proofs.Listing.{on_list}
@@ -94,6 +99,16 @@ module _ (t : DeathTable) (o : Identity) (l : List DeathNotification) (h : Death
           some false false g = rw g refl
 
 -- ---- one object after the other
+
+-- who is armed is as little told as who is queued
+pub queued_untold : (k : WordKey) (x : DeathNotification) → is_armed x.phase ≡ true → is_told_of k (record x { phase = Queued }) ≡ is_told_of k x
+queued_untold k x armed = ap (λ b. b && has_cookie k x) (untold x.phase armed)
+  where
+    untold : (p : Phase) → is_armed p ≡ true → false ≡ is_told p
+    untold Armed e = refl
+    untold Queued e = absurd cc
+    untold Told e = absurd cc
+    untold Done e = absurd cc
 
 abbrev queue : DeathNotification → DeathNotification
 queue x = record x { phase = Queued }

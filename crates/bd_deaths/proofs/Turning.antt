@@ -7,7 +7,9 @@ use Rattle.bd_keys.proofs.{Rising.{has}, Found.{found_passes}}
 use Rattle.bd_chains.specs.Rows.{Row}
 use Rattle.bd_deaths.specs.{declared.key.NameKey.{NameKey}, declared.kept.Kept.{Kept}, declared.kept.Watch.{Watch}, declared.kept.Mark.{Mark}, declared.table.DeathTable.{DeathTable}}
 use Rattle.bd_deaths.specs.Entries.{Entry, Apart, Fits, ObjectsShow, ProcessesShow, death_of, made_of, at_of, kept_of, object_row, process_row, asks_on, kept_at, place_at, name_at}
-use Rattle.bd_deaths.specs.Stands.{DeathsAre}
+use Rattle.bd_keys.specs.declared.map.WordMap.{WordMap}
+use Rattle.bd_deaths.specs.declared.sharers.Sharers.{Sharers}
+use Rattle.bd_deaths.specs.{Stands.{DeathsAre}, Shared.{AreShared}}
 use Rattle.slab.specs.Slab.{Slab, get}
 use Rattle.bd_ways.specs.Words.{Phase}
 use Rattle.bd_space.specs.Deaths.{is_notification}
@@ -16,7 +18,7 @@ use Rattle.bd_deaths.specs.Changes.{in_phase, with_cleared}
 use Rattle.bd_keys.proofs.Found.{none_found}
 use Rattle.bd_deaths.proofs.Changes.{Found, found, none_there}
 use Rattle.std.proofs.lemmas.Bool.{and_parts}
-use Rattle.bd_deaths.proofs.{Indexed.{found_turned, found_once, shown_less}, Changes.{find_map, find_same, by_place, once_slot, once_place, once_name}}
+use Rattle.bd_deaths.proofs.{Sharing.{shared_same}, Indexed.{found_turned, found_once, shown_less}, Changes.{find_map, find_same, by_place, once_slot, once_place, once_name}}
 
 pub record Keeps (F : Kept → Kept) (k : Kept) : Type 0 where
   pub made : (F k).death.made ≡ k.death.made
@@ -69,8 +71,8 @@ module _ (F : Kept → Kept) (keeps : (k : Kept) → Keeps F k) where
         → ((rs : List (Row Watch)) → ObjectsShow t rs → ObjectsShow u rs) → ((rs : List (Row Mark)) → ProcessesShow t rs → ProcessesShow u rs)
         → ((k : ℕ) → kept_at u k ≡ option_map F (kept_at t k)) → ((m : ℕ) → place_at u m ≡ place_at t m)
         → ((n : NameKey) → name_at u n ≡ option_map at_of (find (λ e. asks_on n (F e.kept).death) h.entries))
-        → u.next ≡ t.next → DeathsAre u (changed P f l)
-    deaths_turned t u l h objects processes slots places names next =
+        → u.next ≡ t.next → AreShared u.cookies (changed P f l) → DeathsAre u (changed P f l)
+    deaths_turned t u l h objects processes slots places names next shared =
         let es = h.entries in
         record {
           entries = map turn es;
@@ -84,6 +86,7 @@ module _ (F : Kept → Kept) (keeps : (k : Kept) → Keeps F k) where
             fit = All-map (Fits u.next) turn es (λ i d lt. let w = h.are.fit i d lt in record { serial = subst (λ m. m < u.next) (sym (keeps (get_or es i d).kept).serial) (subst (λ n. (get_or es i d).kept.serial < n) (sym next) w.serial); at = w.at });
           };
           deaths_are = changes es ∙ ap (changed P f) h.deaths_are;
+          shared = shared;
         }
       where
         mapped : (o : Option Entry) → option_map F (option_map kept_of o) ≡ option_map (λ e. kept_of (turn e)) o
@@ -130,14 +133,15 @@ module _ (P : DeathNotification → Bool) (g : Kept → Kept) where
       at false = refl
 
 -- some are in another phase
-pub phases_turned : (P : DeathNotification → Bool) (phase : Phase) (t : DeathTable) (slots : Slab Kept) (l : List DeathNotification) → DeathsAre t l
-    → ((k : ℕ) → get slots k ≡ option_map (partly P (in_phase phase)) (kept_at t k)) → DeathsAre (record t { slots = slots }) (changed P (λ x. record x { phase = phase }) l)
-phases_turned P phase t slots l h are =
+pub phases_turned : (P : DeathNotification → Bool) (phase : Phase) (t : DeathTable) (slots : Slab Kept) (cookies : WordMap Sharers) (l : List DeathNotification) → DeathsAre t l
+    → ((k : ℕ) → get slots k ≡ option_map (partly P (in_phase phase)) (kept_at t k)) → AreShared cookies (changed P (λ x. record x { phase = phase }) l)
+    → DeathsAre (record t { slots = slots; cookies = cookies }) (changed P (λ x. record x { phase = phase }) l)
+phases_turned P phase t slots cookies l h are shared =
     let g = in_phase phase in
     deaths_turned (partly P g) (keeps_partly P g (λ k. record { made = refl; process = refl; object = refl; serial = refl; on = refl; of = refl })) P (λ x. record x { phase = phase }) (says P g (λ x. record x { phase = phase }) (λ k. refl))
     (λ n k on. sym (either P g (λ k. asks_on n k.death) k refl) ∙ on)
-    t (record t { slots = slots }) l h (λ rs s. s) (λ rs s. s) are (λ m. refl)
-    (λ n. h.are.names_are n ∙ ap (option_map at_of) (find_same _ _ (λ e. sym (either P g (λ k. asks_on n k.death) e.kept refl)) h.entries)) refl
+    t (record t { slots = slots; cookies = cookies }) l h (λ rs s. s) (λ rs s. s) are (λ m. refl)
+    (λ n. h.are.names_are n ∙ ap (option_map at_of) (find_same _ _ (λ e. sym (either P g (λ k. asks_on n k.death) e.kept refl)) h.entries)) refl shared
 
 -- ---- the one made at a place
 
@@ -199,8 +203,8 @@ find_filter p q (x ∷ xs) = grind (arith, find_filter p q xs)
 pub cleared_turned : (t : DeathTable) (m : ℕ) (l : List DeathNotification) (h : DeathsAre t l) (at : ℕ) (x : DeathNotification) → place_at t m ≡ Some at
     → option_map (λ k. k.death) (kept_at t at) ≡ Some x → (u : DeathTable) → ((rs : List (Row Watch)) → ObjectsShow t rs → ObjectsShow u rs) → ((rs : List (Row Mark)) → ProcessesShow t rs → ProcessesShow u rs)
     → ((k : ℕ) → kept_at u k ≡ cond (at == k) (option_map with_cleared (kept_at t k)) (kept_at t k)) → ((n : ℕ) → place_at u n ≡ place_at t n)
-    → ((n : NameKey) → name_at u n ≡ cond (asks_on n x) None (name_at t n)) → u.next ≡ t.next → DeathsAre u (changed (is_notification m) (λ x. record x { cleared = true }) l)
-cleared_turned t m l h at x place there u objects processes set places gone next =
+    → ((n : NameKey) → name_at u n ≡ cond (asks_on n x) None (name_at t n)) → u.next ≡ t.next → u.cookies ≡ t.cookies → DeathsAre u (changed (is_notification m) (λ x. record x { cleared = true }) l)
+cleared_turned t m l h at x place there u objects processes set places gone next cookies =
     deaths_turned (partly P with_cleared) (keeps_partly P with_cleared (λ k. record { made = refl; process = refl; object = refl; serial = refl; on = refl; of = refl })) P (λ x. record x { cleared = true })
     (says P with_cleared (λ x. record x { cleared = true }) (λ k. refl))
     (λ n k on. (and_parts (not (P k.death)) (asks_on n k.death) (sym (asks_cleared n k (P k.death)) ∙ on)).1)
@@ -209,6 +213,7 @@ cleared_turned t m l h at x place there u objects processes set places gone next
     ∙ shown_less (λ e. asks_on n (death_of e)) at_of made_of m es f.entry (by_place es h.are.apart) (once_name es h.are.apart n) f.is
     ∙ ap (option_map at_of) (find_filter (λ e. asks_on n (death_of e)) (λ e. not (has made_of m e)) es
     ∙ find_same _ _ (λ e. sym (asks_cleared n e.kept (P (death_of e)))) es)) next
+    (subst (λ c. AreShared c (changed (is_notification m) (λ x. record x { cleared = true }) l)) (sym cookies) (shared_same t.cookies l (is_notification m) (λ x. record x { cleared = true }) (λ k x. refl) (λ k x on. refl) h.shared))
   where
     P : DeathNotification → Bool
     P = is_notification m

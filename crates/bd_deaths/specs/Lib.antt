@@ -1,4 +1,5 @@
 pub mod Entries
+pub mod Shared
 pub mod Changes
 pub mod Stands
 pub mod Room

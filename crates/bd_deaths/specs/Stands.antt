@@ -2,12 +2,13 @@
 use Rattle.std.specs.Prelude.{◌≡◌, List, map}
 use Rattle.bd_ways.specs.Words.{DeathNotification}
 use Rattle.bd_keys.specs.Tables as tables
-use Rattle.bd_deaths.specs.{declared.table.DeathTable.{DeathTable}, Entries.{Entry, EntriesAre, death_of}}
+use Rattle.bd_deaths.specs.{declared.table.DeathTable.{DeathTable}, Entries.{Entry, EntriesAre, death_of}, Shared.{AreShared}}
 
 pub record DeathsAre (t : DeathTable) (l : List DeathNotification) : Type 0 where
   pub entries : List Entry
   pub are : EntriesAre t entries
   pub deaths_are : map death_of entries ≡ l
+  pub shared : AreShared t.cookies l
 
 -- of every list that the table stands for x is what f says
 abbrev pub Tells : {A : Type 0} → DeathTable → A → (List DeathNotification → A) → Type 0

@@ -6,6 +6,7 @@ mod kept;
 mod key;
 mod look;
 mod phase;
+mod sharers;
 mod table;
 
 pub use table::DeathTable;

@@ -8,20 +8,22 @@ ghost use Rattle.bd_deaths.specs.Entries as spec;
 
 use crate::kept::Mark;
 use crate::key::NameKey;
+use crate::sharers::{is_told, sharers_at};
 use crate::table::DeathTable;
 use bd_chains::{Items, Numbering};
-use bd_space::{DeathNotification, Identity, Phase};
+use bd_keys::WordKey;
+use bd_space::{DeathNotification, Identity};
 
 // Whether the notification is told, of the process, with the cookie.
 fn is_told_with(p: u64, cookie: u64, x: &DeathNotification) -> bool
     ensures { result ≡ deaths_of.is_told_with p cookie x.now }
 {
-    matches!(x.phase, Phase::Told) && x.process == p && x.cookie == cookie
+    is_told(x.phase) && x.process == p && x.cookie == cookie
 }
 
 impl DeathTable {
     ghost use Rattle.std.specs.Prelude.{option_map};
-    ghost use Rattle.bd_deaths.specs.Stands.{Tells};
+    ghost use Rattle.bd_deaths.specs.Stands.{DeathsAre, Tells};
 
     // What is kept in this slot.
     pub(crate) fn in_slot(&self, at: usize) -> Option<DeathNotification>
@@ -80,11 +82,30 @@ impl DeathTable {
         None
     }
 
+    // In which slot the least told notification of the process with this cookie is. Mostly it is the only one.
+    fn slot_told(&self, p: u64, cookie: u64) -> Option<usize>
+        ensures { (l : List declared.DeathNotification) → (h : DeathsAre self.now l) → result
+            ≡ option_map spec.at_of (find (λ e. deaths_of.is_told_with p cookie (spec.death_of e)) h.entries) }
+    {
+        let key = WordKey {
+            process: p,
+            word: cookie,
+        };
+        let sharers = sharers_at(&self.cookies, key);
+        if sharers.told == 0 {
+            return None;
+        }
+        if sharers.told == 1 && self.is_told_at(p, cookie, sharers.latest) {
+            return Some(sharers.latest);
+        }
+        let marks = self.processes.chains.items_on(self.processes.numbers.of(p));
+        self.first_told(p, cookie, marks)
+    }
+
     /// The least told notification of the process with this cookie.
     pub fn told(&self, p: u64, cookie: u64) -> Option<DeathNotification>
         ensures { Tells self.now result (λ l. find (deaths_of.is_told_with p cookie) l) }
     {
-        let marks = self.processes.chains.items_on(self.processes.numbers.of(p));
-        self.in_slot(self.first_told(p, cookie, marks)?)
+        self.in_slot(self.slot_told(p, cookie)?)
     }
 }

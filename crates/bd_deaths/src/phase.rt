@@ -13,6 +13,7 @@ ghost use Rattle.bd_deaths.specs.Due as due;
 ghost use Rattle.bd_deaths.specs.Changes as changes;
 
 use crate::kept::{Kept, Watch};
+use crate::sharers::turn_sharer;
 use crate::table::{DeathTable, forget_name};
 use bd_chains::{Items, Numbering};
 use bd_records::Records;
@@ -93,7 +94,10 @@ impl DeathTable {
         ensures count { death_count self.new ≡ death_count self.old }
     {
         if let Some(at) = self.place(made) {
-            set_phase_at(&mut self.slots, at, phase);
+            if let Some(x) = self.in_slot(at) {
+                turn_sharer(&mut self.cookies, &x, at, phase);
+                set_phase_at(&mut self.slots, at, phase);
+            }
         }
     }
 

@@ -13,8 +13,9 @@ ghost use Rattle.bd_deaths.specs.declared.key.NameKey.{NameKey};
 
 use crate::kept::{Kept, Mark, Watch};
 use crate::key::{NameKey, name_of};
+use crate::sharers::{Sharers, add_sharer, remove_sharer};
 use bd_chains::{Lists, Numbers};
-use bd_keys::insert_reserved;
+use bd_keys::{WordMap, insert_reserved};
 use bd_numbered::Guesses;
 use bd_space::{DeathNotification, Identity};
 use slab::Slab;
@@ -31,6 +32,8 @@ pub struct DeathTable {
     pub(crate) places: HashMap<u64, usize>,
     // The slots of those that aren't cleared, by their names: there is one on a name at most.
     pub(crate) names: HashMap<NameKey, usize>,
+    // How many have each cookie: a process picks its cookies, and whatever it picks, a look stays short.
+    pub(crate) cookies: WordMap<Sharers>,
     // In which slot the one is that was made at a place.
     pub(crate) guesses: Guesses,
     // The serial number of the next that comes.
@@ -45,6 +48,7 @@ impl Drop for DeathTable {
             processes: _,
             places: _,
             names: _,
+            cookies: _,
             guesses: _,
             next: _,
         } = self;
@@ -113,6 +117,7 @@ impl DeathTable {
             processes: Lists::new(alloc, Numbers::new(alloc)),
             places: HashMap::new(alloc),
             names: HashMap::new(alloc),
+            cookies: WordMap::new(alloc),
             guesses: Guesses::new(alloc),
             next: 0,
         }
@@ -134,6 +139,7 @@ impl DeathTable {
         self.processes.reserve(more)?;
         self.places.reserve(more)?;
         self.names.reserve(more)?;
+        self.cookies.reserve(more)?;
         self.guesses.reserve(self.slots.capacity());
         Ok(())
     }
@@ -166,6 +172,7 @@ impl DeathTable {
         self.guesses.note(x.made, at);
         insert_reserved(&mut self.places, x.made, at);
         insert_reserved(&mut self.names, name_of(&x), at);
+        add_sharer(&mut self.cookies, &x, at);
         self.next += 1;
     }
 
@@ -202,6 +209,7 @@ impl DeathTable {
             → spec.object_number self.new kept.now.death.object ≡ None }
         ensures slots { self.new.slots ≡ self.old.slots }
         ensures places { self.new.places ≡ self.old.places }
+        ensures cookies { self.new.cookies ≡ self.old.cookies }
         ensures next { self.new.next ≡ self.old.next }
         ensures listed { lists_room self.old.objects.chains (spare self.old.objects.numbers.all)
             ≤ lists_room self.new.objects.chains (spare self.new.objects.numbers.all) }
@@ -222,6 +230,7 @@ impl DeathTable {
     {
         if let Some(at) = forget_place(&mut self.places, made) {
             if let Some(kept) = take_slot(&mut self.slots, at) {
+                remove_sharer(&mut self.cookies, &kept.death);
                 self.leave(&kept);
             }
         }

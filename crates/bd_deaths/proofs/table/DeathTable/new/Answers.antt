@@ -1,5 +1,5 @@
-use Rattle.std.proofs.Common.{[], false, refl, arith}
-use Rattle.bd_deaths.specs.Entries.{by_object, by_process}
+use Rattle.std.proofs.Common.{[], false, refl, ap, arith}
+use Rattle.bd_deaths.specs.{Entries.{by_object, by_process}, Shared.{count_of, told_of}}
 use Rattle.bd_deaths.proofs.table.DeathTable.new.Goals as goal
 
 pub returns : goal.returns
@@ -15,4 +15,9 @@ returns c = record {
     fit = λ k d h. absurd (omega arith);
   };
   deaths_are = refl;
+  shared = record {
+    counted = λ k. ap count_of (c.new-8.ensures k);
+    tolds = λ k. ap told_of (c.new-8.ensures k);
+    kept = λ k none. c.new-8.ensures k;
+  };
 }

@@ -4,7 +4,11 @@ use Rattle.std.specs.{Prelude.{min, Option}, HashMap.{spare}}
 use Rattle.slab.specs.Slab.{Slab, Updates, get, slab_len}
 use Rattle.bd_chains.specs.Lists.{lists_room}
 use Rattle.bd_deaths.specs.{Room.{death_room, death_count}, Entries.{by_object, by_process, same_name, name_at}}
-use Rattle.bd_deaths.proofs.Changes.{deaths_pushed}
+use Rattle.std.proofs.Common.{map, length}
+use Rattle.std.proofs.lemmas.List.{length-map}
+use Rattle.bd_keys.specs.Look.{word_room}
+use Rattle.bd_deaths.specs.Entries.{object_row, death_of}
+use Rattle.bd_deaths.proofs.{Sharing.{shared_more}, Changes.{deaths_pushed}}
 use Rattle.bd_deaths.proofs.table.DeathTable.push.Goals as goal
 
 updated : {T : Type 0} (s u : Slab T) (at key : ℕ) (o : Option T) → at ≡ key → Updates s u key o → (k : ℕ) → get u k ≡ cond (at == k) o (get s k)
@@ -20,10 +24,10 @@ both_more a b p q e f = omega arith
 fewer : (c d l : ℕ) → c ≡ d → c - l ≤ (d - (l + 1)) + 1
 fewer c d l e = omega arith
 
-more : (c d l n a b p q v w x y : ℕ) → c ≡ d → a ≤ b + 1 → p ≤ q + 1 → v ≤ w + 1 → x ≤ y + 1
-    → min (min (c - l) (18446744073709551615 - n)) (min (min a p) (min v x)) ≤ min (min (d - (l + 1)) (18446744073709551615 - (n + 1))) (min (min b q) (min w y)) + 1
-more c d l n a b p q v w x y e f g h i =
-    both_more _ _ _ _ (both_more _ _ _ _ (fewer c d l e) (fewer 18446744073709551615 18446744073709551615 n refl)) (both_more _ _ _ _ (both_more a b p q f g) (both_more v w x y h i))
+more : (c d l n a b p q v w x y r s : ℕ) → c ≡ d → a ≤ b + 1 → p ≤ q + 1 → v ≤ w + 1 → x ≤ y + 1 → r ≤ s + 1
+    → min (min (c - l) (18446744073709551615 - n)) (min (min a p) (min v (min x r))) ≤ min (min (d - (l + 1)) (18446744073709551615 - (n + 1))) (min (min b q) (min w (min y s))) + 1
+more c d l n a b p q v w x y r s e f g h i j =
+    both_more _ _ _ _ (both_more _ _ _ _ (fewer c d l e) (fewer 18446744073709551615 18446744073709551615 n refl)) (both_more _ _ _ _ (both_more a b p q f g) (both_more v w (min x r) (min y s) h (both_more x y r s i j)))
 
 pub returns-clause-stands : goal.returns-clause-stands
 returns-clause-stands c = λ l new asked h.
@@ -35,6 +39,11 @@ returns-clause-stands c = λ l new asked h.
     (updated c.args.self.now.slots c.insert_reserved.new.self c.vacant_key-at.result c.insert_reserved.result _ same c.insert_reserved.ensures.updates)
     c.insert_reserved-2.ensures.put
     (λ k. c.insert_reserved-3.ensures.put k ∙ ap (λ n. cond (same_name n k) (Some c.vacant_key-at.result) (name_at c.args.self.now k)) c.name_of.ensures) refl
+    (let few = c.push.ensures.few by_object (λ _. false) (map object_row h.entries) h.are.on_objects in
+    let a = length-map h.entries object_row in
+    let b = length-map h.entries death_of in
+    let d = ap length h.deaths_are in
+    shared_more c.args.self.now.cookies c.add_sharer.new.cookies l c.args.x h.shared (omega (arith, few, a, b, d)) c.add_sharer.ensures.counted c.add_sharer.ensures.tolds c.add_sharer.ensures.kept)
 
 pub returns-clause-uses : goal.returns-clause-uses
 unfolding death_room death_count
@@ -46,7 +55,7 @@ returns-clause-uses c =
       room = rw (c.insert_reserved.ensures.len) (more t.slots.capacity c.insert_reserved.new.self.capacity (slab_len t.slots) t.next
           (lists_room t.objects.chains (spare t.objects.numbers.all)) (lists_room objects.chains (spare objects.numbers.all))
           (lists_room t.processes.chains (spare t.processes.numbers.all)) (lists_room processes.chains (spare processes.numbers.all))
-          (spare t.places) (spare c.insert_reserved-2.new.map) (spare t.names) (spare c.insert_reserved-3.new.map)
-          (sym c.insert_reserved.ensures.capacity) c.push.ensures.uses c.push-2.ensures.uses c.insert_reserved-2.ensures.room c.insert_reserved-3.ensures.room);
+          (spare t.places) (spare c.insert_reserved-2.new.map) (spare t.names) (spare c.insert_reserved-3.new.map) (word_room t.cookies) (word_room c.add_sharer.new.cookies)
+          (sym c.insert_reserved.ensures.capacity) c.push.ensures.uses c.push-2.ensures.uses c.insert_reserved-2.ensures.room c.insert_reserved-3.ensures.room c.add_sharer.ensures.room);
       count = let e = c.insert_reserved.ensures.len in omega (arith, e);
     }

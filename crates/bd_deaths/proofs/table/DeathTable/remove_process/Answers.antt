@@ -8,10 +8,10 @@ use Rattle.bd_deaths.proofs.table.DeathTable.remove_process.Goals as goal
 
 pub returns-clause-stands : goal.returns-clause-stands
 returns-clause-stands c = λ l h.
-    deaths_kept c.pop_each.new.self _ _ (λ rs s. s) (c.give_back.ensures.stands by_process (λ _. false)) (λ k. refl) (λ m. refl) (λ k. refl) refl (c.pop_each.ensures.stands l h)
+    deaths_kept c.pop_each.new.self _ _ (λ rs s. s) (c.give_back.ensures.stands by_process (λ _. false)) (λ k. refl) (λ m. refl) (λ k. refl) refl (λ s. s) (c.pop_each.ensures.stands l h)
 
 pub returns-clause-uses : goal.returns-clause-uses
-returns-clause-uses c = uses_then c.pop_each.ensures.uses (uses_less c.pop_each.new.self _ (omega arith) (omega arith) refl (omega arith) c.give_back.ensures.uses (omega arith) (omega arith))
+returns-clause-uses c = uses_then c.pop_each.ensures.uses (uses_less c.pop_each.new.self _ (omega arith) (omega arith) refl (omega arith) c.give_back.ensures.uses (omega arith) (omega arith) (omega arith))
 
 pub returns-clause-gone : goal.returns-clause-gone
 returns-clause-gone c = λ l h.
