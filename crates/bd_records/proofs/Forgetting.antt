@@ -1,16 +1,8 @@
 -- All references go that a process asked for to one object.
-use Rattle.std.proofs.Common.{◌≡◌, ◌≤◌, ◌+◌, ℕ, ◌==◌, Bool, true, false, not, ◌&&◌, cond, List, [], ◌∷◌, filter, Option, Some, None, refl, ap, sym, ◌∙◌, subst, arith, count_by, eqb-true}
-use Rattle.std.specs.Prelude.{option_map}
-use Rattle.std.proofs.lemmas.Bool.{and_parts, eq-eqb}
-use Rattle.std.proofs.lemmas.List.Sums.{sum_by-cons}
-use Rattle.bd_ways.specs.Words.{beq, Identity, Object, Reference, Holder, Asked, Carried, Target, Handshake, Manager, same}
-use Rattle.bd_space.specs.References.{owned_in, is_asking, is_shaking, is_asked_by}
-use Rattle.bd_space.proofs.Identities.{same_eq, same_self, same_turned}
-use Rattle.bd_records.specs.declared.{count.Count.{Count}, row.ObjectRow.{ObjectRow}, row.NameRow.{NameRow}}
-use Rattle.bd_records.specs.Count.{of_strength}
-use Rattle.bd_records.specs.Counting.{lowered, unasked, total_of, owed_of, managed_of, asked_of, carried_of, is_to, is_managing, is_carrying}
-use Rattle.bd_records.specs.{Counted.{CountsAre}, Records.{is_owner}, Buffers.{is_held}}
-use Rattle.bd_records.proofs.Disowning.{count_rest, none_in_rest, count_parts}
+use Rattle.bd_records.proofs.Words.{Asked, Bool, Carried, Count, CountsAre, Handshake, Holder, Identity, List, Manager, NameRow, None, Object, ObjectRow, Option, Reference, Some, Target, [], and_parts, ap, arith, asked_of, beq, carried_of, cond, count_by, eq-eqb, eqb-true, false, filter}
+use Rattle.bd_records.proofs.Words.{is_asked_by, is_asking, is_carrying, is_held, is_managing, is_owner, is_shaking, is_to, lowered, managed_of, not, of_strength, option_map, owed_of, owned_in, refl, same, same_eq, same_self, same_turned, subst, sum_by-cons, sym, total_of, true, unasked, ℕ, ◌&&◌}
+use Rattle.bd_records.proofs.Words.{◌+◌, ◌==◌, ◌∙◌, ◌∷◌, ◌≡◌, ◌≤◌}
+use Rattle.bd_records.proofs.Disowning.{count_parts, count_rest, none_in_rest}
 
 abbrev pub asked_to : ℕ → Identity → Reference → Bool
 asked_to p o r = same r.object o && is_asked_by p r.holder

@@ -1,19 +1,8 @@
 -- Names that were given since they were settled.
-use Rattle.std.proofs.Common.{◌≡◌, ℕ, ◌==◌, ◌≤◌, ◌+◌, ◌-◌, min, Bool, true, false, not, ◌&&◌, cond, List, [], ◌∷◌, ◌++◌, filter, Option, Some, None, is_some, refl, sym, ap, ◌∙◌, subst, append_assoc, append-nil, length, length-append, arith}
-use Rattle.std.specs.List.{count_by}
-use Rattle.std.proofs.lemmas.Bool.{eq-eqb}
-use Rattle.bd_ways.specs.Words.{Identity, Object, Reference, Name, same}
-use Rattle.bd_space.proofs.Identities.{same_self}
-use Rattle.bd_space.specs.References.{owned_in, is_asking}
-use Rattle.bd_space.specs.Names.{named_in, number_in}
-use Rattle.bd_records.specs.Numbers.{new_number, with_number}
-use Rattle.bd_records.specs.Sound.{Sound, has_object}
-use Rattle.bd_records.proofs.NamesFound.{came_number}
-use Rattle.bd_records.proofs.Freeing.{free_unnamed}
-use Rattle.bd_records.proofs.Singles.{last_dropped}
-use Rattle.bd_records.proofs.GivenNames.{nil_of}
-use Rattle.bd_records.specs.declared.{records.Records.{Records}, names.Names.{Names}, row.ObjectRow.{ObjectRow}, row.NameRow.{NameRow}}
-use Rattle.bd_records.specs.{Count.{no_count, of_strength}, Counting.{asked_of, carried_of, is_carrying}, NameRows.{new_row}, Names.{name_at, number_of}, NamesAre.{NamesAre}, Counted.{CountsAre}, Since.{IsBlank, AreBlank, Since, Settled, KeepsSettled}, Room.{Uses}}
+use Rattle.bd_records.proofs.Words.{AreBlank, Bool, CountsAre, Identity, IsBlank, KeepsSettled, List, Name, NameRow, Names, NamesAre, None, Object, ObjectRow, Option, Records, Reference, Settled, Since, Some, Sound, Uses, [], ap, append-nil, append_assoc, arith, asked_of, carried_of, cond, count_by}
+use Rattle.bd_records.proofs.Words.{eq-eqb, false, filter, has_object, is_asking, is_carrying, is_some, length, length-append, min, name_at, named_in, new_number, new_row, no_count, not, number_in, number_of, of_strength, owned_in, refl, same, same_self, subst, sym, true, with_number, ℕ, ◌&&◌, ◌++◌}
+use Rattle.bd_records.proofs.Words.{◌+◌, ◌-◌, ◌==◌, ◌∙◌, ◌∷◌, ◌≡◌, ◌≤◌}
+use Rattle.bd_records.proofs.{Freeing.{free_unnamed}, GivenNames.{nil_of}, NamesFound.{came_number}, Singles.{last_dropped}}
 
 -- ---- blank names
 

@@ -1,17 +1,8 @@
 -- What is kept and what is told of objects and references.
-use Rattle.std.proofs.Common.{◌≡◌, ℕ, ◌-◌, ◌==◌, nat_lt, Bool, true, false, not, cond, ◌&&◌, ◌||◌, List, [], ◌∷◌, Option, Some, None, refl, sym, ap, ◌∙◌, arith, count_by}
-use Rattle.std.proofs.lemmas.Bool.{eqb-true}
-use Rattle.std.specs.{Prelude.{option_map}, List.{list_any}}
-use Rattle.bd_ways.specs.Words.{beq, Identity, Object, Reference, Holder, Asked, Carried, Target, Handshake, Manager, same, without_first}
-use Rattle.bd_space.specs.References.{owned_in, is_asking, is_shaking, is_asked_by, is_handshake, gives_name_to, held_in, strong_in}
-use Rattle.bd_space.proofs.Identities.{same_eq}
-use Rattle.bd_records.specs.declared.{count.Count.{Count}, row.ObjectRow.{ObjectRow}, row.NameRow.{NameRow}}
-use Rattle.bd_records.specs.Count.{of_strength, is_empty}
-use Rattle.bd_records.specs.Counting.{turned, asked_of, carried_of, is_to, is_carrying, is_carried_to}
-use Rattle.bd_records.specs.{Buffers.{is_held}, Counted.{CountsAre}}
-use Rattle.bd_records.specs.Records.{is_owner}
-use Rattle.bd_records.proofs.Tallies.{Test, on, count_first}
-use Rattle.bd_records.proofs.Lists.{any_counts, found_is, found_passes}
+use Rattle.bd_records.proofs.Words.{Asked, Bool, Carried, Count, CountsAre, Handshake, Holder, Identity, List, Manager, NameRow, None, Object, ObjectRow, Option, Reference, Some, Target, [], ap, arith, asked_of, beq, carried_of, cond, count_by, eqb-true, false, gives_name_to, held_in, is_asked_by}
+use Rattle.bd_records.proofs.Words.{is_asking, is_carried_to, is_carrying, is_empty, is_handshake, is_held, is_owner, is_shaking, is_to, list_any, nat_lt, not, of_strength, option_map, owned_in, refl, same, same_eq, strong_in, sym, true, turned, without_first, ℕ, ◌&&◌, ◌-◌, ◌==◌, ◌||◌, ◌∙◌, ◌∷◌}
+use Rattle.bd_records.proofs.Words.{◌≡◌}
+use Rattle.bd_records.proofs.{Lists.{any_counts, found_is, found_passes}, Tallies.{Test, count_first, on}}
 
 -- ---- objects stay as they are
 

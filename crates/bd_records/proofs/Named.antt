@@ -1,23 +1,7 @@
 -- A space's names, when a record came or went.
-use Rattle.std.proofs.Common.{◌≡◌, ℕ, ◌<◌, ◌≤◌, ◌==◌, ◌&&◌, Bool, true, false, not, cond, List, [], ◌∷◌, ◌++◌, filter, find, Option, Some, None, is_some, refl, sym, ap, ◌∙◌, subst, arith, Result, Ok, Err, IfOk, OnOk, OnErr, IfSome, ◌^◌, inl, inr}
-use Rattle.std.specs.Prelude.{nat_lt, IfNone}
-use Rattle.std.proofs.lemmas.Bool.Decides.{nat_tests}
-use Rattle.std.proofs.lemmas.Bool.{and_parts, eqb-true, eq-eqb, cases_lt}
-use Rattle.bd_space.proofs.Identities.{same_eq, same_self}
-use Rattle.bd_ways.specs.Words.{Identity, Name, same}
-use Rattle.bd_space.specs.Names.{named_in, number_in}
-use Rattle.bd_records.specs.{declared.names.Names.{Names}, Names.{named_by, number_of}, NamesAre.{NamesAre, KeepsNames}}
-use Rattle.bd_numbered.specs.Numbered.{value_at, IsFreeAt}
-use Rattle.bd_chains.specs.Chain.{is_at}
-use Rattle.bd_keys.specs.Tables.{Makes}
-use Rattle.std.specs.Prelude.{option_map}
-use Rattle.bd_records.specs.NameRows.{object_of}
-use Rattle.bd_records.specs.Numbers.{new_number, with_number, IsFull, IsNextNumber}
-use Rattle.bd_records.specs.Sound.{has_number, has_object}
-use Rattle.bd_records.proofs.Limits.{fits_push, fits_filter, past_unnamed}
-use Rattle.bd_records.proofs.FreeNumbers.{free_first, free_past}
-use Rattle.bd_records.proofs.Freeing.{used_named, free_unnamed}
-use Rattle.bd_records.proofs.NamesFound.{came_sound, came_object, came_number, gone_sound, gone_object, gone_number, none_gone}
+use Rattle.bd_records.proofs.Words.{Bool, Err, Identity, IfNone, IfOk, IfSome, IsFreeAt, IsFull, IsNextNumber, KeepsNames, List, Makes, Name, Names, NamesAre, None, Ok, OnErr, OnOk, Option, Result, Some, [], and_parts, ap, arith, cases_lt, cond, eq-eqb, eqb-true, false, filter, find, has_number}
+use Rattle.bd_records.proofs.Words.{has_object, inl, inr, is_at, is_some, named_by, named_in, nat_lt, nat_tests, new_number, not, number_in, number_of, object_of, option_map, refl, same, same_eq, same_self, subst, sym, true, value_at, with_number, ℕ, ◌&&◌, ◌++◌, ◌<◌, ◌==◌, ◌^◌, ◌∙◌, ◌∷◌, ◌≡◌, ◌≤◌}
+use Rattle.bd_records.proofs.{FreeNumbers.{free_first, free_past}, Freeing.{free_unnamed, used_named}, Limits.{fits_filter, fits_push, past_unnamed}, NamesFound.{came_number, came_object, came_sound, gone_number, gone_object, gone_sound, none_gone}}
 
 abbrev name : ℕ → ℕ → Identity → Name
 name p n o = record { process = p; number = n; object = o }

@@ -1,13 +1,7 @@
 -- Each counter, when a reference came or went.
-use Rattle.std.proofs.Common.{◌≡◌, ℕ, ◌+◌, ◌-◌, ◌<◌, ◌≤◌, ◌==◌, Bool, true, false, cond, ◌&&◌, List, [], ◌∷◌, ◌++◌, length, Option, Some, None, is_some, find, refl, sym, ap, ◌∙◌, subst, arith, count_by}
-use Rattle.std.proofs.lemmas.List.Sums.{sum_by-cons, sum_by_push, count_by-le-length}
-use Rattle.std.specs.Prelude.{option_map}
-use Rattle.bd_ways.specs.Words.{beq, Identity, Object, Reference, Holder, Asked, Carried, Target, Handshake, Manager, same, without_first}
-use Rattle.bd_space.specs.References.{owned_in, is_asking, is_shaking, is_asked_by, is_handshake, gives_name_to}
-use Rattle.bd_records.specs.declared.{count.Count.{Count}, row.ObjectRow.{ObjectRow}, row.NameRow.{NameRow}}
-use Rattle.bd_records.specs.Count.{of_strength, one_more}
-use Rattle.bd_records.specs.Counting.{one_less, counting, discounting, name_counting, name_discounting, total_of, owed_of, managed_of, asked_of, carried_of, is_to, is_managing, is_managers, is_carrying, is_carried_to}
-use Rattle.bd_records.specs.Counted.{CountsAre}
+use Rattle.bd_records.proofs.Words.{Asked, Bool, Carried, Count, CountsAre, Handshake, Holder, Identity, List, Manager, NameRow, None, Object, ObjectRow, Option, Reference, Some, Target, [], ap, arith, asked_of, beq, carried_of, cond, count_by, count_by-le-length, counting, discounting, false, find}
+use Rattle.bd_records.proofs.Words.{gives_name_to, is_asked_by, is_asking, is_carried_to, is_carrying, is_handshake, is_managers, is_managing, is_shaking, is_some, is_to, length, managed_of, name_counting, name_discounting, of_strength, one_less, one_more, option_map, owed_of, owned_in, refl, same}
+use Rattle.bd_records.proofs.Words.{subst, sum_by-cons, sum_by_push, sym, total_of, true, without_first, ℕ, ◌&&◌, ◌++◌, ◌+◌, ◌-◌, ◌<◌, ◌==◌, ◌∙◌, ◌∷◌, ◌≡◌, ◌≤◌}
 
 more_strength : (s b : Bool) (c : Count) (n : ℕ) → of_strength s c ≡ n → n < 18446744073709551615 → of_strength s (one_more b c) ≡ n + cond (beq b s) 1 0
 more_strength true true c n e few = grind (arith, e)

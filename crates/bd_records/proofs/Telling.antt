@@ -1,20 +1,7 @@
 -- What an object's owner was told.
-use Rattle.std.proofs.Common.{◌≡◌, ℕ, ◌==◌, map, Bool, true, false, ◌&&◌, ◌||◌, cond, List, [], ◌∷◌, Option, Some, None, refl, ap, sym, ◌∙◌, subst, arith}
-use Rattle.std.specs.Prelude.{option_map}
-use Rattle.bd_ways.specs.Words.{Identity, Object, Reference, same, changed}
-use Rattle.bd_space.specs.References.{object_in, owned_in}
-use Rattle.bd_space.proofs.Identities.{same_eq}
-use Rattle.bd_records.specs.declared.{row.ObjectRow.{ObjectRow}, row.NameRow.{NameRow}}
-use Rattle.bd_records.specs.Count.{of_strength}
-use Rattle.bd_records.specs.Counting.{told, total_of, owed_of, managed_of}
-use Rattle.bd_records.specs.{Counted.{CountsAre}, Records.{is_owner}}
-use Rattle.bd_keys.specs.Keys.{same_word}
-use Rattle.bd_keys.proofs.Keys.{word_eq, word_self}
-use Rattle.bd_records.specs.ObjectKeys.{id_key, own_key}
-use Rattle.bd_records.proofs.Distinct.{changed_distinct}
-use Rattle.bd_records.proofs.Maps.{finds_hidden}
-use Rattle.bd_records.specs.{declared.owned.Owned.{Owned}, Owned.{OwnedAre, possession, id_at}}
-use Rattle.bd_records.proofs.Coming.{object_of, both_same}
+use Rattle.bd_records.proofs.Words.{Bool, CountsAre, Identity, List, NameRow, None, Object, ObjectRow, Option, Owned, OwnedAre, Reference, Some, [], ap, arith, changed, cond, false, id_at, id_key, is_owner, managed_of, map, object_in, of_strength, option_map, owed_of, own_key, owned_in, possession}
+use Rattle.bd_records.proofs.Words.{refl, same, same_eq, same_word, subst, sym, told, total_of, true, word_eq, word_self, ℕ, ◌&&◌, ◌==◌, ◌||◌, ◌∙◌, ◌∷◌, ◌≡◌}
+use Rattle.bd_records.proofs.{Coming.{both_same, object_of}, Distinct.{changed_distinct}, Maps.{finds_hidden}}
 
 module _ (weak strong : Bool) (o : Identity) where
   abbrev tell : Object → Object

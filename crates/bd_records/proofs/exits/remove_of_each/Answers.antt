@@ -1,7 +1,5 @@
-use Rattle.std.proofs.Common.{List, refl, sym, ap, ◌∙◌, subst, arith}
-use Rattle.bd_ways.specs.Words.{Identity}
-use Rattle.bd_records.specs.{Objects.{row_at}, Counted.{CountsAre}, Ending.{without_own}}
-use Rattle.bd_records.proofs.{Disowning.{others, kept_row, kept_owner, disowned_counts}, Ending.{own_more, own_none}}
+use Rattle.bd_records.proofs.Words.{CountsAre, Identity, List, ap, arith, refl, row_at, subst, sym, without_own, ◌∙◌}
+use Rattle.bd_records.proofs.{Disowning.{disowned_counts, kept_owner, kept_row, others}, Ending.{own_more, own_none}}
 use Rattle.bd_records.proofs.exits.remove_of_each.Goals as goal
 
 pub loop-o-init : goal.loop-o-init

@@ -1,14 +1,5 @@
-use Rattle.std.proofs.Common.{refl, ◌≡◌, true, false, sym, ◌∙◌, subst, arith}
-use Rattle.std.specs.List.{list_any}
-use Rattle.bd_ways.specs.Words.{Reference, Asked, without_first}
-use Rattle.bd_space.specs.References.{is_asking}
-use Rattle.bd_records.specs.{Objects.{row_at}, Names.{name_at}, Buffers.{is_held}, Records.{RecordsAre}}
-use Rattle.bd_records.proofs.Tallies.{counts_less}
-use Rattle.bd_records.proofs.Lists.{first_shorter, none_first, kept_first}
-use Rattle.bd_records.proofs.Buffering.{same_buffers}
-use Rattle.bd_records.proofs.Holding.{objects_same, owners_same, goes, asking_alike, asked_off}
-use Rattle.bd_records.proofs.Named.{names_kept}
-use Rattle.bd_records.proofs.Given.{settled_kept}
+use Rattle.bd_records.proofs.Words.{Asked, RecordsAre, Reference, arith, false, is_asking, is_held, list_any, name_at, refl, row_at, subst, sym, true, without_first, ◌∙◌, ◌≡◌}
+use Rattle.bd_records.proofs.{Buffering.{same_buffers}, Given.{settled_kept}, Holding.{asked_off, asking_alike, goes, objects_same, owners_same}, Lists.{first_shorter, kept_first, none_first}, Named.{names_kept}, Tallies.{counts_less}}
 use Rattle.bd_records.proofs.records.Records.drop_asked.Goals as goal
 
 pub returns-then-is_asked-clause-stands : goal.returns-then-is_asked-clause-stands

@@ -1,9 +1,5 @@
-use Rattle.std.proofs.Common.{◌≡◌, List, ◌++◌, Some, None, is_some, cond, sym, ap, ◌∙◌, subst, arith}
-use Rattle.bd_ways.specs.Words.{Name}
-use Rattle.bd_numbered.specs.Numbered.{value_at}
-use Rattle.bd_records.proofs.GivenNames.{new_name, one_given}
-use Rattle.bd_records.specs.{Counting.{asked_of, carried_of}, Names.{name_at, number_of}, Objects.{row_at}, NameRows.{object_of, new_row}, Slots.{on_slot}, Since.{IsBlank, AreBlank}}
-use Rattle.bd_records.proofs.{Naming.{shown_some}, Asked.{counts_named}, Given.{given_number, since_had, all_put, blank_more, here}}
+use Rattle.bd_records.proofs.Words.{AreBlank, IsBlank, List, Name, None, Some, ap, arith, asked_of, carried_of, cond, is_some, name_at, new_row, number_of, object_of, on_slot, row_at, subst, sym, value_at, ◌++◌, ◌∙◌, ◌≡◌}
+use Rattle.bd_records.proofs.{Asked.{counts_named}, Given.{all_put, blank_more, given_number, here, since_had}, GivenNames.{new_name, one_given}, Naming.{shown_some}}
 use Rattle.bd_records.proofs.records.Records.give_name.Goals as goal
 
 pub returns-in-Some-clause-names : goal.returns-in-Some-clause-names

@@ -1,13 +1,5 @@
-use Rattle.std.proofs.Common.{refl, ◌≡◌, false, find, Some, is_some, sym, ap, ◌∙◌, subst, arith}
-use Rattle.std.specs.List.{list_any}
-use Rattle.bd_ways.specs.Words.{Reference, without_first}
-use Rattle.bd_space.specs.References.{is_of_buffer}
-use Rattle.bd_records.specs.{Objects.{row_at}, Names.{name_at}, Counted.{CountsAre}}
-use Rattle.bd_records.proofs.Tallies.{counts_less, count_first, on}
-use Rattle.bd_records.proofs.Lists.{first_shorter, none_first, found_some}
-use Rattle.bd_records.proofs.Holding.{objects_same, owners_same}
-use Rattle.bd_records.proofs.Named.{names_kept}
-use Rattle.bd_records.proofs.Given.{settled_kept}
+use Rattle.bd_records.proofs.Words.{CountsAre, Reference, Some, ap, arith, false, find, is_of_buffer, is_some, list_any, name_at, refl, row_at, subst, sym, without_first, ◌∙◌, ◌≡◌}
+use Rattle.bd_records.proofs.{Given.{settled_kept}, Holding.{objects_same, owners_same}, Lists.{first_shorter, found_some, none_first}, Named.{names_kept}, Tallies.{count_first, counts_less, on}}
 use Rattle.bd_records.proofs.records.Records.pop_held.Goals as goal
 
 pub returns-in-Some-clause-stands : goal.returns-in-Some-clause-stands

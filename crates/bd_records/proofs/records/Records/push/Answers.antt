@@ -1,12 +1,5 @@
-use Rattle.std.proofs.Common.{refl, ◌<◌, true, [], ◌∷◌, ◌++◌, ◌-◌, length, sym, ◌∙◌, arith}
-use Rattle.std.specs.Prelude.{vec_len, vec_capacity}
-use Rattle.bd_space.proofs.Identities.{same_eq}
-use Rattle.bd_records.specs.{Objects.{row_at, object_room}, Names.{name_at, name_room}, Owned.{own_room}, Buffers.{buffer_room}}
-use Rattle.bd_records.proofs.Tallies.{counts_more, count_push, on}
-use Rattle.bd_records.proofs.Lists.{length_more}
-use Rattle.bd_records.proofs.Holding.{objects_same, owners_same}
-use Rattle.bd_records.proofs.Named.{names_kept}
-use Rattle.bd_records.proofs.Given.{settled_kept, less_stays, one_fewer}
+use Rattle.bd_records.proofs.Words.{[], arith, buffer_room, length, name_at, name_room, object_room, own_room, refl, row_at, same_eq, sym, true, vec_capacity, vec_len, ◌++◌, ◌-◌, ◌<◌, ◌∙◌, ◌∷◌}
+use Rattle.bd_records.proofs.{Given.{less_stays, one_fewer, settled_kept}, Holding.{objects_same, owners_same}, Lists.{length_more}, Named.{names_kept}, Tallies.{count_push, counts_more, on}}
 use Rattle.bd_records.proofs.records.Records.push.Goals as goal
 
 pub returns-clause-stands : goal.returns-clause-stands

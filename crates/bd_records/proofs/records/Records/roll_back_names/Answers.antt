@@ -1,7 +1,5 @@
-use Rattle.std.proofs.Common.{◌++◌, refl, sym, subst, arith}
-use Rattle.bd_records.proofs.GivenNames.{nil_of, all_back}
-use Rattle.bd_records.specs.{Names.{name_at}, Objects.{row_at}, NamesAre.{NamesAre}, Since.{AreBlank, Since}}
-use Rattle.bd_records.proofs.{Asked.{counts_unnamed}, Given.{all_gone, blank_last, blank_counts, last_of}}
+use Rattle.bd_records.proofs.Words.{AreBlank, NamesAre, Since, arith, name_at, refl, row_at, subst, sym, ◌++◌}
+use Rattle.bd_records.proofs.{Asked.{counts_unnamed}, Given.{all_gone, blank_counts, blank_last, last_of}, GivenNames.{all_back, nil_of}}
 use Rattle.bd_records.proofs.records.Records.roll_back_names.Goals as goal
 
 pub loop-m-init : goal.loop-m-init
