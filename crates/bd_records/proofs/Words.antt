@@ -8,11 +8,11 @@ pub use Rattle.bd_keys.proofs.{Found.{found_passes}, Keys.{word_eq, word_self}, 
 pub use Rattle.bd_keys.specs.{Keys.{same_word}, Look.{look}, Numbers.{pair}, Tables.{Makes}, declared.key.WordKey.{WordKey}}
 pub use Rattle.bd_numbered.specs.{Numbered.{IsFreeAt, value_at}, declared.numbered.Numbered.{Numbered}}
 pub use Rattle.bd_places.specs.Places.{is_there_and}
-pub use Rattle.bd_records.specs.{Asks.{asks}, Buffers.{BuffersAre, Shows, Windows, buffer_of, buffer_room, is_held, list_of, window_list, window_of}, Carried.{carried_in, is_carried_by}, Count.{is_empty, no_count, of_strength, one_more}, Counted.{CountsAre}}
-pub use Rattle.bd_records.specs.Counting.{asked_of, carried_of, counting, discounting, disowned, is_carried_to, is_carrying, is_managers, is_managing, is_to, lowered, managed_of, name_counting, name_discounting, name_turned, one_less, owed_of, told, total_of, turned, unasked}
+pub use Rattle.bd_records.specs.{Asks.{asks}, Buffers.{BuffersAre, Shows, Windows, buffer_of, buffer_room, is_held, list_of, window_list, window_of}, Carried.{carried_in, is_carried_by}, Count.{is_empty, no_count, of_strength, turned_count}, Counted.{CountsAre}}
+pub use Rattle.bd_records.specs.Counting.{asked_of, carried_of, disowned, is_asked, is_carried, is_carried_to, is_carrying, is_managers, is_managing, is_to, lowered, managed_of, name_turned, owed_of, told, total_of, turned, turned_if, unasked}
 pub use Rattle.bd_records.specs.{Ending.{LiesIn, is_named_at, own_among, without_own}, Lying.{Paired, buffer_key, lying_at, references, same_key, window_key, window_of_holder}, Maps.{AreDistinct, Finds}, NameRows.{new_row, object_of}, Names.{name_at, name_room, named_by, number_of}}
 pub use Rattle.bd_records.specs.{NamesAre.{KeepsNames, NamesAre}, New.{AreNewIn, IsNewIn}, NumberKeys.{number_at}, Numbers.{IsFull, IsNextNumber, free_number_from, new_number, with_number}, ObjectKeys.{id_key, kept, own_key}, Objects.{object_room, row_at, slot_at}}
-pub use Rattle.bd_records.specs.{Owned.{OwnedAre, id_at, own_room, owner_of, possession, same_owner, stands_at}, Records.{RecordsAre, is_owner}, Room.{Uses}, Since.{AreBlank, IsBlank, KeepsSettled, Settled, Since}, Slots.{on_slot}, Sound.{Sound, has_number, has_object}}
+pub use Rattle.bd_records.specs.{Owned.{OwnedAre, id_at, own_room, owner_of, possession, same_owner, stands_at}, Records.{IsHomed, RecordsAre, is_owner}, Room.{Uses}, Since.{AreBlank, IsBlank, KeepsSettled, Settled, Since}, Slots.{on_slot}, Sound.{Sound, has_number, has_object}}
 pub use Rattle.bd_records.specs.declared.{buffers.{Berth.{Berth}, Buffers.{Buffers}}, count.Count.{Count}, lying.Lying.{Lying}, names.Names.{Names}, number_key.ObjectKey.{ObjectKey}, owned.{Owned.{Owned}, Possession.{Possession}, Spot.{Spot}}, records.Records.{Records}, row.{NameRow.{NameRow}, ObjectRow.{ObjectRow}}}
 pub use Rattle.bd_space.proofs.Identities.{same_eq, same_self, same_turned}
 pub use Rattle.bd_space.specs.{Names.{has_number_past_limit, is_named_in, named_in, number_in}, References.{buffer_of_holder, gives_name_to, held_in, is_asked_by, is_asking, is_handshake, is_in_window, is_of_buffer, is_of_owner, is_shaking, object_in, owned_in, strong_in}, Words.{least}}
