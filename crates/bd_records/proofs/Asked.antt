@@ -1,21 +1,6 @@
 -- A name comes or goes while nothing gives it.
-use Rattle.std.proofs.Common.{◌≡◌, ◌≤◌, ℕ, ◌==◌, Bool, true, false, ◌&&◌, cond, List, [], ◌∷◌, Option, Some, None, refl, ap, sym, ◌∙◌, subst, arith}
-use Rattle.std.proofs.lemmas.Bool.{and_parts, eqb-true}
-use Rattle.std.specs.List.{count_by}
-use Rattle.bd_ways.specs.Words.{Identity, Object, Reference, same}
-use Rattle.bd_space.specs.References.{owned_in, gives_name_to, is_asking}
-use Rattle.bd_space.specs.Names.{is_named_in}
-use Rattle.bd_space.proofs.Identities.{same_eq}
-use Rattle.bd_records.specs.declared.{count.Count.{Count}, row.ObjectRow.{ObjectRow}, row.NameRow.{NameRow}}
-use Rattle.bd_records.specs.Count.{no_count, of_strength}
-use Rattle.bd_records.specs.Counting.{asked_of, carried_of, is_carrying}
-use Rattle.std.specs.List.{list_any}
-use Rattle.std.proofs.lemmas.List.Sums.{sum_by-cons}
-use Rattle.bd_space.specs.References.{is_asked_by}
-use Rattle.bd_space.specs.declared.space.Holder.{Holder}
-use Rattle.bd_space.specs.declared.space.Holder.TheVariants.{Asked, Carried, Target, Handshake, Manager}
-use Rattle.bd_records.specs.{Counting.{is_carried_to}}
-use Rattle.bd_records.specs.{NameRows.{new_row}, Counted.{CountsAre}}
+use Rattle.bd_records.proofs.Words.{Asked, Bool, Carried, Count, CountsAre, Handshake, Holder, Identity, List, Manager, NameRow, None, Object, ObjectRow, Option, Reference, Some, Target, [], and_parts, ap, arith, asked_of, carried_of, cond, count_by, eqb-true, false, gives_name_to, is_asked_by}
+use Rattle.bd_records.proofs.Words.{is_asking, is_carried_to, is_carrying, is_named_in, list_any, new_row, no_count, of_strength, owned_in, refl, same, same_eq, subst, sum_by-cons, sym, true, ℕ, ◌&&◌, ◌==◌, ◌∙◌, ◌∷◌, ◌≡◌, ◌≤◌}
 
 module _ (O : Identity → Option ObjectRow) (N M : ℕ → Identity → Option NameRow) (p : ℕ) (o : Identity) (objects : List Object) (l : List Reference) (h : CountsAre O N objects l) where
   -- a name that no reference carries comes

@@ -1,12 +1,6 @@
 -- What a process asked for goes, name by name.
-use Rattle.std.proofs.Common.{◌≡◌, ℕ, ◌<◌, nat_lt, ◌^◌, Bool, true, false, not, ◌&&◌, ◌||◌, cond, List, [], ◌∷◌, filter, Option, Some, None, refl, sym, ap, ◌∙◌, subst, arith, count_by}
-use Rattle.std.specs.{List.{list_any}}
-use Rattle.bd_ways.specs.Words.{Identity, Object, Reference}
-use Rattle.bd_space.specs.References.{is_asked_by, is_asking}
-use Rattle.bd_space.proofs.Identities.{same_self}
-use Rattle.bd_numbered.specs.Numbered.{value_at}
-use Rattle.bd_records.specs.declared.{records.Records.{Records}}
-use Rattle.bd_records.specs.{Count.{of_strength, no_count}, Counting.{asked_of}, Names.{named_by, number_of}, Slots.{on_slot}, Records.{RecordsAre}, Ending.{is_named_at}}
+use Rattle.bd_records.proofs.Words.{Bool, Identity, List, None, Object, Option, Records, RecordsAre, Reference, Some, [], ap, arith, asked_of, cond, count_by, false, filter, is_asked_by, is_asking, is_named_at, list_any, named_by, nat_lt, no_count, not, number_of, of_strength, on_slot, refl}
+use Rattle.bd_records.proofs.Words.{same_self, subst, sym, true, value_at, ℕ, ◌&&◌, ◌<◌, ◌^◌, ◌||◌, ◌∙◌, ◌∷◌, ◌≡◌}
 use Rattle.bd_records.proofs.{Forgetting.{asked_to}, Holding.{asked_counts}, Lists.{filter_within}}
 
 abbrev pub asked_by : ℕ → Reference → Bool

@@ -1,16 +1,5 @@
 -- What the calls on maps leave, where they succeed.
-use Rattle.std.proofs.Common.{◌≡◌, Bool, true, false, not, List, Option, Some, None, option_map, find, refl, ap, sym, subst, ◌∙◌}
-use Rattle.bd_keys.proofs.Found.{found_passes}
-use Rattle.bd_keys.specs.declared.key.WordKey.{WordKey}
-use Rattle.bd_keys.specs.Keys.{same_word}
-use Rattle.bd_keys.proofs.Keys.{word_eq, word_self}
-use Rattle.bd_space.specs.declared.step.Identity.{Identity}
-use Rattle.bd_space.specs.declared.space.Object.{Object}
-use Rattle.bd_space.specs.Words.{same}
-use Rattle.bd_space.specs.References.{object_in}
-use Rattle.bd_records.specs.ObjectKeys.{id_key, own_key}
-use Rattle.bd_records.specs.Maps.{AreDistinct}
-use Rattle.bd_space.proofs.Identities.{same_eq, same_self}
+use Rattle.bd_records.proofs.Words.{AreDistinct, Bool, Identity, List, None, Object, Option, Some, WordKey, ap, false, find, found_passes, id_key, not, object_in, option_map, own_key, refl, same, same_eq, same_self, same_word, subst, sym, true, word_eq, word_self, ◌∙◌, ◌≡◌}
 use Rattle.bd_records.proofs.Found.{found_own}
 
 -- an own object is found by its identity

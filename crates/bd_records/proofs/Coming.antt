@@ -1,15 +1,6 @@
 -- Objects that come and go.
-use Rattle.std.proofs.Common.{◌≡◌, ◌≤◌, ℕ, ◌==◌, Bool, true, false, not, ◌&&◌, ◌||◌, cond, List, [], ◌∷◌, ◌++◌, filter, Option, Some, None, refl, ap, sym, ◌∙◌, subst, arith}
-use Rattle.std.specs.{Prelude.{option_map}, List.{count_by}}
-use Rattle.std.proofs.lemmas.Bool.{or_parts}
-use Rattle.std.proofs.lemmas.List.Sums.{sum_by-cons}
-use Rattle.bd_ways.specs.Words.{Identity, Object, Reference, same}
-use Rattle.bd_space.specs.References.{object_in, owned_in, held_in, is_asking, is_shaking}
-use Rattle.bd_space.proofs.Identities.{same_eq}
-use Rattle.bd_records.specs.declared.{count.Count.{Count}, row.ObjectRow.{ObjectRow}, row.NameRow.{NameRow}}
-use Rattle.bd_records.specs.Count.{no_count, of_strength}
-use Rattle.bd_records.specs.Counting.{total_of, owed_of, managed_of, carried_of, is_to, is_managing, is_carrying}
-use Rattle.bd_records.specs.{Counted.{CountsAre}, Records.{is_owner}}
+use Rattle.bd_records.proofs.Words.{Bool, Count, CountsAre, Identity, List, NameRow, None, Object, ObjectRow, Option, Reference, Some, [], ap, arith, carried_of, cond, count_by, false, filter, held_in, is_asking, is_carrying, is_managing, is_owner, is_shaking, is_to, managed_of, no_count, not}
+use Rattle.bd_records.proofs.Words.{object_in, of_strength, option_map, or_parts, owed_of, owned_in, refl, same, same_eq, subst, sum_by-cons, sym, total_of, true, ℕ, ◌&&◌, ◌++◌, ◌==◌, ◌||◌, ◌∙◌, ◌∷◌, ◌≡◌, ◌≤◌}
 use Rattle.bd_records.proofs.Asked.{none_count}
 
 abbrev pub object_of : ObjectRow → Object

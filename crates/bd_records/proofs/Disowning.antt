@@ -1,14 +1,6 @@
 -- The references go that an owner has to its own object.
-use Rattle.std.proofs.Common.{◌≡◌, ◌≤◌, ◌+◌, ℕ, Bool, true, false, not, ◌&&◌, cond, List, [], ◌∷◌, filter, length, Option, Some, None, refl, ap, sym, ◌∙◌, subst, arith, count_by}
-use Rattle.std.specs.Prelude.{option_map}
-use Rattle.std.proofs.lemmas.List.Sums.{sum_by-cons}
-use Rattle.bd_ways.specs.Words.{beq, Identity, Object, Reference, Holder, Asked, Carried, Target, Handshake, Manager, same}
-use Rattle.bd_space.specs.References.{is_of_owner, is_asking, is_shaking, is_asked_by}
-use Rattle.bd_space.proofs.Identities.{same_eq, same_self, same_turned}
-use Rattle.bd_records.specs.declared.{row.ObjectRow.{ObjectRow}, row.NameRow.{NameRow}}
-use Rattle.bd_records.specs.Count.{of_strength}
-use Rattle.bd_records.specs.Counting.{disowned, total_of, owed_of, managed_of, carried_of, is_to, is_managing, is_carrying, is_carried_to}
-use Rattle.bd_records.specs.{Counted.{CountsAre}, Records.{is_owner}}
+use Rattle.bd_records.proofs.Words.{Asked, Bool, Carried, CountsAre, Handshake, Holder, Identity, List, Manager, NameRow, None, Object, ObjectRow, Option, Reference, Some, Target, [], ap, arith, beq, carried_of, cond, count_by, disowned, false, filter, is_asked_by, is_asking, is_carried_to}
+use Rattle.bd_records.proofs.Words.{is_carrying, is_managing, is_of_owner, is_shaking, is_to, length, managed_of, not, of_strength, option_map, owed_of, refl, same, same_eq, same_self, same_turned, subst, sum_by-cons, sym, total_of, true, ℕ, ◌&&◌, ◌+◌, ◌∙◌, ◌∷◌, ◌≡◌, ◌≤◌}
 
 -- ---- counts and lists without what passes a test
 
@@ -197,22 +189,3 @@ module _ (o : Identity) where
         at_managed y s false e =
             ap (λ w. of_strength s (managed_of w)) (other_row y e) ∙ h.managed y s
             ∙ sym (count_rest (is_managing y s) (own_to o) (λ x k. (let a = far y x.object e (grind (arith, k)) in grind (arith, a))) l)
-
--- what else the row says stays
-pub kept_row : (o : Identity) (O O' : Identity → Option ObjectRow) → ((y : Identity) → O' y ≡ cond (same o y) (option_map disowned (O y)) (O y))
-    → (y : Identity) → option_map (λ (v : ObjectRow). v.object) (O' y) ≡ option_map (λ (v : ObjectRow). v.object) (O y)
-kept_row o O O' rows y = ap (option_map (λ (v : ObjectRow). v.object)) (rows y) ∙ at (same o y) (O y)
-  where
-    at : (b : Bool) (w : Option ObjectRow) → option_map (λ (v : ObjectRow). v.object) (cond b (option_map disowned w) w) ≡ option_map (λ (v : ObjectRow). v.object) w
-    at true None = refl
-    at true (Some v) = refl
-    at false w = refl
-
-pub kept_owner : (o : Identity) (O O' : Identity → Option ObjectRow) → ((y : Identity) → O' y ≡ cond (same o y) (option_map disowned (O y)) (O y))
-    → (p : ℕ) (y : Identity) → is_owner p (O' y) ≡ is_owner p (O y)
-kept_owner o O O' rows p y = ap (is_owner p) (rows y) ∙ at (same o y) (O y)
-  where
-    at : (b : Bool) (w : Option ObjectRow) → is_owner p (cond b (option_map disowned w) w) ≡ is_owner p w
-    at true None = refl
-    at true (Some v) = refl
-    at false w = refl

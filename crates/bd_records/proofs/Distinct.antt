@@ -1,7 +1,5 @@
 -- Lists of which no two elements have one key.
-use Rattle.std.proofs.Common.{◌≡◌, Bool, true, false, not, ◌||◌, cond, if◌then◌else◌, List, [], ◌∷◌, ◌++◌, Option, Some, None, find, filter, refl, ap, sym, subst, ◌∙◌}
-use Rattle.bd_space.specs.Words.{changed}
-use Rattle.bd_records.specs.Maps.{AreDistinct}
+use Rattle.bd_records.proofs.Words.{AreDistinct, Bool, List, None, Option, Some, [], ap, changed, cond, false, filter, find, if◌then◌else◌, not, refl, subst, sym, true, ◌++◌, ◌||◌, ◌∙◌, ◌∷◌, ◌≡◌}
 
 pub cons_none : {A : Type 0} (b : Bool) (x : A) (o : Option A) → cond b (Some x) o ≡ None → (b ≡ false) × (o ≡ None)
 cons_none true x o h = absurd (cc)

@@ -1,14 +1,6 @@
 -- The objects of what goes with a process.
-use Rattle.std.proofs.Common.{◌≡◌, ℕ, ◌≤◌, Bool, true, false, not, ◌&&◌, ◌||◌, cond, map, List, [], ◌∷◌, ◌++◌, filter, Option, Some, None, refl, sym, ap, ◌∙◌, arith, Result, Ok, Err, OnErr}
-use Rattle.std.specs.List.{list_any}
-use Rattle.std.proofs.lemmas.List.Folds.{list_any-append}
-use Rattle.bd_ways.specs.Words.{Identity, Object, Reference, same}
-use Rattle.bd_ways.specs.Local.{is_among}
-use Rattle.bd_space.specs.References.{is_asked_by, is_in_window}
-use Rattle.bd_space.proofs.Identities.{same_eq, same_turned}
-use Rattle.bd_numbered.specs.Numbered.{value_at}
-use Rattle.bd_records.specs.declared.{lying.Lying.{Lying}, names.Names.{Names}, records.Records.{Records}}
-use Rattle.bd_records.specs.{Count.{is_empty}, Counting.{asked_of}, Names.{name_at, named_by, number_of}, Slots.{on_slot}, Records.{RecordsAre}, Ending.{is_named_at}, Asks.{asks}}
+use Rattle.bd_records.proofs.Words.{Bool, Err, Identity, List, Lying, Names, None, Object, Ok, OnErr, Option, Records, RecordsAre, Reference, Result, Some, [], ap, arith, asked_of, asks, cond, false, filter, is_among, is_asked_by, is_empty, is_in_window, is_named_at, list_any, list_any-append, map}
+use Rattle.bd_records.proofs.Words.{name_at, named_by, not, number_of, on_slot, refl, same, same_eq, same_turned, sym, true, value_at, ℕ, ◌&&◌, ◌++◌, ◌||◌, ◌∙◌, ◌∷◌, ◌≡◌, ◌≤◌}
 use Rattle.bd_records.proofs.{Forgetting.{asked_to}, Holding.{asked_counts, not_empty}}
 
 pub among_append : (xs ys : List Identity) (o : Identity) → is_among (xs ++ ys) o ≡ (is_among xs o || is_among ys o)

@@ -1,10 +1,6 @@
 -- The lists of a window's buffers, while one reference after the other is taken out of it.
-use Rattle.std.proofs.Common.{◌≡◌, ℕ, Bool, true, false, not, ◌&&◌, cond, List, [], ◌∷◌, filter, find, Option, Some, None, ◌⊎◌, inl, inr, refl, ap, sym, ◌∙◌, arith}
-use Rattle.std.specs.List.{list_any}
-use Rattle.std.proofs.lemmas.Bool.{eqb-true}
-use Rattle.bd_ways.specs.Words.{Reference, Holder, Asked, Carried, Target, Handshake, Manager, without_first}
-use Rattle.bd_space.specs.References.{buffer_of_holder, is_of_buffer, is_in_window, is_asked_by}
-use Rattle.bd_records.specs.Ending.{LiesIn}
+use Rattle.bd_records.proofs.Words.{Asked, Bool, Carried, Handshake, Holder, LiesIn, List, Manager, None, Option, Reference, Some, Target, [], ap, arith, buffer_of_holder, cond, eqb-true, false, filter, find, inl, inr, is_asked_by, is_in_window, is_of_buffer, list_any, not, refl, sym, true}
+use Rattle.bd_records.proofs.Words.{without_first, ℕ, ◌&&◌, ◌∙◌, ◌∷◌, ◌≡◌, ◌⊎◌}
 use Rattle.bd_records.proofs.Lists.{nothing_goes}
 
 of_buffer : (b : ℕ) (h : Holder) → is_of_buffer b h ≡ true → buffer_of_holder h ≡ Some b

@@ -1,11 +1,6 @@
 -- What goes with a process, one after the other.
-use Rattle.std.proofs.Common.{◌≡◌, ℕ, ◌==◌, Bool, true, false, not, ◌&&◌, ◌||◌, cond, map, List, [], ◌∷◌, filter, is_some, refl, ap, arith}
-use Rattle.bd_ways.specs.Words.{Identity, Object, Reference, Holder, Asked, Carried, Target, Handshake, Manager, same}
-use Rattle.bd_ways.specs.Local.{is_among}
-use Rattle.bd_space.specs.References.{owned_in, is_of_owner, buffer_of_holder}
-use Rattle.bd_space.proofs.Identities.{same_turned}
-use Rattle.bd_records.specs.Ending.{own_among, without_own}
-use Rattle.bd_records.specs.Buffers.{is_held}
+use Rattle.bd_records.proofs.Words.{Asked, Bool, Carried, Handshake, Holder, Identity, List, Manager, Object, Reference, Target, [], ap, arith, buffer_of_holder, cond, false, filter, is_among, is_held, is_of_owner, is_some, map, not, own_among, owned_in, refl, same, same_turned, true, without_own}
+use Rattle.bd_records.proofs.Words.{ℕ, ◌&&◌, ◌==◌, ◌||◌, ◌∷◌, ◌≡◌}
 use Rattle.bd_records.proofs.Lists.{both_filters}
 
 -- ---- what an owner has to its objects

@@ -1,16 +1,8 @@
 -- All references go that a process asked for to one object.
-use Rattle.std.proofs.Common.{◌≡◌, ◌≤◌, ◌+◌, ℕ, ◌==◌, Bool, true, false, not, ◌&&◌, cond, List, [], ◌∷◌, filter, Option, Some, None, refl, ap, sym, ◌∙◌, subst, arith, count_by, eqb-true}
-use Rattle.std.specs.Prelude.{option_map}
-use Rattle.std.proofs.lemmas.Bool.{and_parts, eq-eqb}
-use Rattle.std.proofs.lemmas.List.Sums.{sum_by-cons}
-use Rattle.bd_ways.specs.Words.{beq, Identity, Object, Reference, Holder, Asked, Carried, Target, Handshake, Manager, same}
-use Rattle.bd_space.specs.References.{owned_in, is_asking, is_shaking, is_asked_by}
-use Rattle.bd_space.proofs.Identities.{same_eq, same_self, same_turned}
-use Rattle.bd_records.specs.declared.{count.Count.{Count}, row.ObjectRow.{ObjectRow}, row.NameRow.{NameRow}}
-use Rattle.bd_records.specs.Count.{of_strength}
-use Rattle.bd_records.specs.Counting.{lowered, unasked, total_of, owed_of, managed_of, asked_of, carried_of, is_to, is_managing, is_carrying}
-use Rattle.bd_records.specs.{Counted.{CountsAre}, Records.{is_owner}, Buffers.{is_held}}
-use Rattle.bd_records.proofs.Disowning.{count_rest, none_in_rest, count_parts}
+use Rattle.bd_records.proofs.Words.{Asked, Bool, Carried, Count, CountsAre, Handshake, Holder, Identity, List, Manager, NameRow, None, Object, ObjectRow, Option, Reference, Some, Target, [], and_parts, ap, arith, asked_of, beq, carried_of, cond, count_by, eq-eqb, eqb-true, false, filter}
+use Rattle.bd_records.proofs.Words.{is_asked_by, is_asking, is_carrying, is_held, is_managing, is_owner, is_shaking, is_to, lowered, managed_of, not, of_strength, option_map, owed_of, owned_in, refl, same, same_eq, same_self, same_turned, subst, sum_by-cons, sym, total_of, true, unasked, ℕ, ◌&&◌}
+use Rattle.bd_records.proofs.Words.{◌+◌, ◌==◌, ◌∙◌, ◌∷◌, ◌≡◌, ◌≤◌}
+use Rattle.bd_records.proofs.{Disowning.{count_parts, count_rest, none_in_rest}, Tallies.{row_kept}}
 
 abbrev pub asked_to : ℕ → Identity → Reference → Bool
 asked_to p o r = same r.object o && is_asked_by p r.holder
@@ -85,45 +77,22 @@ module _ (p : ℕ) (o : Identity) where
   module _ (O O' : Identity → Option ObjectRow) (N N' : ℕ → Identity → Option NameRow) (objects : List Object) (l : List Reference) (h : CountsAre O N objects l)
       (rows : (y : Identity) → O' y ≡ cond (same o y) (option_map (lowered (asked_of (N p o))) (O y)) (O y))
       (names : (q : ℕ) (y : Identity) → N' q y ≡ cond ((p == q) && same o y) (option_map unasked (N q y)) (N q y)) where
-    kept : {A : Type 0} (f : Option ObjectRow → A) → ((w : Option ObjectRow) → f (option_map (lowered (asked_of (N p o))) w) ≡ f w) → (y : Identity) → f (O' y) ≡ f (O y)
-    kept f alike y = ap f (rows y) ∙ at (same o y)
-      where
-        at : (b : Bool) → f (cond b (option_map (lowered (asked_of (N p o))) (O y)) (O y)) ≡ f (O y)
-        at true = alike (O y)
-        at false = refl
-
-    object_kept : (w : Option ObjectRow) → option_map (λ (v : ObjectRow). v.object) (option_map (lowered (asked_of (N p o))) w) ≡ option_map (λ (v : ObjectRow). v.object) w
-    object_kept None = refl
-    object_kept (Some v) = refl
-
-    owner_kept : (q : ℕ) (w : Option ObjectRow) → is_owner q (option_map (lowered (asked_of (N p o))) w) ≡ is_owner q w
-    owner_kept q None = refl
-    owner_kept q (Some v) = refl
-
-    owed_kept : (w : Option ObjectRow) → owed_of (option_map (lowered (asked_of (N p o))) w) ≡ owed_of w
-    owed_kept None = refl
-    owed_kept (Some v) = refl
-
-    managed_kept : (w : Option ObjectRow) → managed_of (option_map (lowered (asked_of (N p o))) w) ≡ managed_of w
-    managed_kept None = refl
-    managed_kept (Some v) = refl
+    kept : {A : Type 0} (f : Option ObjectRow → A) → ((v : ObjectRow) → f (Some (lowered (asked_of (N p o)) v)) ≡ f (Some v)) → (y : Identity) → f (O' y) ≡ f (O y)
+    kept f alike = row_kept f (lowered (asked_of (N p o))) alike o O O' rows
 
     pub lowered_objects : (y : Identity) → option_map (λ (v : ObjectRow). v.object) (O' y) ≡ option_map (λ (v : ObjectRow). v.object) (O y)
-    lowered_objects y = kept (option_map (λ (v : ObjectRow). v.object)) object_kept y
+    lowered_objects = kept (option_map (λ (v : ObjectRow). v.object)) (λ v. refl)
 
     pub lowered_owners : (q : ℕ) (y : Identity) → is_owner q (O' y) ≡ is_owner q (O y)
-    lowered_owners q y = kept (is_owner q) (owner_kept q) y
+    lowered_owners q = kept (is_owner q) (λ v. refl)
 
-    name_kept : (f : Option NameRow → Count) → ((w : Option NameRow) → f (option_map unasked w) ≡ f w) → (q : ℕ) (y : Identity) → f (N' q y) ≡ f (N q y)
-    name_kept f alike q y = ap f (names q y) ∙ at ((p == q) && same o y)
+    carried_kept : (q : ℕ) (y : Identity) → carried_of (N' q y) ≡ carried_of (N q y)
+    carried_kept q y = ap carried_of (names q y) ∙ at ((p == q) && same o y) (N q y)
       where
-        at : (b : Bool) → f (cond b (option_map unasked (N q y)) (N q y)) ≡ f (N q y)
-        at true = alike (N q y)
-        at false = refl
-
-    carried_kept : (w : Option NameRow) → carried_of (option_map unasked w) ≡ carried_of w
-    carried_kept None = refl
-    carried_kept (Some v) = refl
+        at : (b : Bool) (w : Option NameRow) → carried_of (cond b (option_map unasked w) w) ≡ carried_of w
+        at true None = refl
+        at true (Some v) = refl
+        at false w = refl
 
     -- its own
     parts : (s : Bool) → count_by (is_to o s) l ≡ count_by (is_to o s) (unasked_by l) + count_by (is_asking p o s) l
@@ -161,12 +130,12 @@ module _ (p : ℕ) (o : Identity) where
     pub forgotten_counts : CountsAre O' N' objects (unasked_by l)
     forgotten_counts = record {
       totals = λ y s. at_total y s (same o y) refl;
-      owed = λ y s. ap (of_strength s) (kept owed_of owed_kept y) ∙ h.owed y s ∙ sym (count_rest (is_shaking y s) (asked_to p o) (shaking_not_asked p o y s) l);
-      managed = λ y s. ap (of_strength s) (kept managed_of managed_kept y) ∙ h.managed y s ∙ sym (count_rest (is_managing y s) (asked_to p o) (managing_not_asked p o y s) l);
+      owed = λ y s. ap (of_strength s) (kept owed_of (λ v. refl) y) ∙ h.owed y s ∙ sym (count_rest (is_shaking y s) (asked_to p o) (shaking_not_asked p o y s) l);
+      managed = λ y s. ap (of_strength s) (kept managed_of (λ v. refl) y) ∙ h.managed y s ∙ sym (count_rest (is_managing y s) (asked_to p o) (managing_not_asked p o y s) l);
       asked = λ q y s. at_asked q y s ((p == q) && same o y) refl;
       unasked = λ q y s own. at_unasked q y s own ((p == q) && same o y) refl;
-      carried = λ q y s free. ap (of_strength s) (name_kept carried_of carried_kept q y) ∙ h.carried q y s free ∙ sym (carrying q y s);
-      carried_few = λ q y s. subst (λ n. of_strength s (carried_of (N' q y)) ≤ n) (sym (carrying q y s)) (subst (λ k. of_strength s k ≤ count_by (is_carrying q y s) l) (sym (name_kept carried_of carried_kept q y)) (h.carried_few q y s));
+      carried = λ q y s free. ap (of_strength s) (carried_kept q y) ∙ h.carried q y s free ∙ sym (carrying q y s);
+      carried_few = λ q y s. subst (λ n. of_strength s (carried_of (N' q y)) ≤ n) (sym (carrying q y s)) (subst (λ k. of_strength s k ≤ count_by (is_carrying q y s) l) (sym (carried_kept q y)) (h.carried_few q y s));
     }
       where
         carrying : (q : ℕ) (y : Identity) (s : Bool) → count_by (is_carrying q y s) (unasked_by l) ≡ count_by (is_carrying q y s) l

@@ -1,9 +1,6 @@
 -- What is found by its key, in a list of which no two elements have one key.
-use Rattle.std.proofs.Common.{◌≡◌, Bool, true, false, ◌&&◌, cond, List, [], ◌∷◌, Option, Some, None, find, filter, option_map, refl, ap, sym, subst, ◌∙◌}
-use Rattle.bd_space.specs.Words.{changed}
-use Rattle.bd_records.specs.ObjectKeys.{kept}
-use Rattle.bd_records.specs.Maps.{AreDistinct}
-use Rattle.bd_records.proofs.Distinct.{cons_none, none_cons, filter_none}
+use Rattle.bd_records.proofs.Words.{AreDistinct, Bool, List, None, Option, Some, [], ap, changed, cond, false, filter, find, kept, option_map, refl, subst, sym, true, ◌&&◌, ◌∙◌, ◌∷◌, ◌≡◌}
+use Rattle.bd_records.proofs.Distinct.{cons_none, filter_none, none_cons}
 
 -- what is found passes
 

@@ -1,11 +1,5 @@
 -- The least number that names nothing is the one that a new name gets.
-use Rattle.std.proofs.Common.{eqb, ◌≡◌, ℕ, Bool, true, false, not, cond, ◌||◌, ◌&&◌, List, [], ◌∷◌, Some, None, find, refl, sym, ◌∙◌, subst}
-use Rattle.std.specs.List.{list_any}
-use Rattle.std.specs.Option.{option_map, is_some}
-use Rattle.bd_keys.proofs.Options.{none_is}
-use Rattle.bd_space.specs.declared.space.Name.{Name}
-use Rattle.bd_space.specs.Names.{named_in}
-use Rattle.bd_records.specs.Numbers.{free_number_from}
+use Rattle.bd_records.proofs.Words.{Bool, List, Name, None, Some, [], cond, eqb, false, find, free_number_from, is_some, list_any, named_in, none_is, not, option_map, refl, subst, sym, true, ℕ, ◌&&◌, ◌||◌, ◌∙◌, ◌∷◌, ◌≡◌}
 use Rattle.bd_records.proofs.FreeNumbers.{free_is}
 
 pub any_is_some : {A B : Type 0} (f : A → B) (key : A → Bool) (xs : List A) → list_any key xs ≡ is_some (option_map f (find key xs))

@@ -1,19 +1,8 @@
 -- Names that were given since they were settled.
-use Rattle.std.proofs.Common.{◌≡◌, ℕ, ◌==◌, ◌≤◌, ◌+◌, ◌-◌, min, Bool, true, false, not, ◌&&◌, cond, List, [], ◌∷◌, ◌++◌, filter, Option, Some, None, is_some, refl, sym, ap, ◌∙◌, subst, append_assoc, append-nil, length, length-append, arith}
-use Rattle.std.specs.List.{count_by}
-use Rattle.std.proofs.lemmas.Bool.{eq-eqb}
-use Rattle.bd_ways.specs.Words.{Identity, Object, Reference, Name, same}
-use Rattle.bd_space.proofs.Identities.{same_self}
-use Rattle.bd_space.specs.References.{owned_in, is_asking}
-use Rattle.bd_space.specs.Names.{named_in, number_in}
-use Rattle.bd_records.specs.Numbers.{new_number, with_number}
-use Rattle.bd_records.specs.Sound.{Sound, has_object}
-use Rattle.bd_records.proofs.NamesFound.{came_number}
-use Rattle.bd_records.proofs.Freeing.{free_unnamed}
-use Rattle.bd_records.proofs.Singles.{last_dropped}
-use Rattle.bd_records.proofs.GivenNames.{nil_of}
-use Rattle.bd_records.specs.declared.{records.Records.{Records}, names.Names.{Names}, row.ObjectRow.{ObjectRow}, row.NameRow.{NameRow}}
-use Rattle.bd_records.specs.{Count.{no_count, of_strength}, Counting.{asked_of, carried_of, is_carrying}, NameRows.{new_row}, Names.{name_at, number_of}, NamesAre.{NamesAre}, Counted.{CountsAre}, Since.{IsBlank, AreBlank, Since, Settled, KeepsSettled}, Room.{Uses}}
+use Rattle.bd_records.proofs.Words.{AreBlank, Bool, CountsAre, Identity, IsBlank, KeepsSettled, List, Name, NameRow, Names, NamesAre, None, Object, ObjectRow, Option, Records, Reference, Settled, Since, Some, Sound, Uses, [], ap, append-nil, append_assoc, arith, asked_of, carried_of, cond, count_by}
+use Rattle.bd_records.proofs.Words.{eq-eqb, false, filter, has_object, is_asking, is_carrying, is_some, length, length-append, min, name_at, new_number, new_row, no_count, not, number_of, of_strength, owned_in, refl, same, same_self, subst, sym, true, with_number, ℕ, ◌&&◌, ◌++◌, ◌+◌, ◌-◌, ◌==◌, ◌∙◌}
+use Rattle.bd_records.proofs.Words.{◌∷◌, ◌≡◌, ◌≤◌}
+use Rattle.bd_records.proofs.{GivenNames.{nil_of}, Singles.{last_dropped}}
 
 -- ---- blank names
 
@@ -51,17 +40,6 @@ blank_last t (n ∷ ms) m h = let k = blank_last t ms m h.1 in ((h.0, k.0), k.1)
 
 pub here : (p : ℕ) (o : Identity) → ((p == p) && same o o) ≡ true
 here p o = rw (eq-eqb p p refl, same_self o) refl
-
-pub given_number : (t u : Names) (names : List Name) (zero : Bool) (p n : ℕ) (o : Identity) → NamesAre t names → number_of t p o ≡ None → NamesAre u (with_number zero p names o) → number_of u p o ≡ Some n
-    → n ≡ new_number zero p names
-given_number t u names zero p n o h lacks k is =
-    let new : number_in names p o ≡ None = h.numbers_are p o ∙ lacks in
-    let m : Name = record { process = p; number = new_number zero p names; object = o } in
-    let free : named_in names p (new_number zero p names) ≡ None = free_unnamed p names (cond zero 0 1) (new_number zero p names) refl in
-    let grown : with_number zero p names o ≡ names ++ m ∷ [] = ap (λ (x : Option ℕ). cond (is_some x) names (names ++ m ∷ [])) new in
-    let shown : number_in (names ++ m ∷ []) p o ≡ Some (new_number zero p names) = came_number names m h.sound free new p o ∙ ap (λ b. cond b (Some (new_number zero p names)) (number_in names p o)) (here p o) in
-    let told : Some (new_number zero p names) ≡ Some n = sym shown ∙ ap (λ (l : List Name). number_in l p o) (sym grown) ∙ k.numbers_are p o ∙ is in
-    cc
 
 pub since_had : (t : Records) (zero : Bool) (p : ℕ) (o : Identity) (base names : List Name) → Since t base names → is_some (number_of t.names p o) ≡ true → Since t base (with_number zero p names o)
 since_had t zero p o base names h had =

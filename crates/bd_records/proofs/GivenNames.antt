@@ -1,10 +1,5 @@
 -- Names that were given since the table was settled.
-use Rattle.std.proofs.Common.{◌≡◌, ℕ, ◌≤◌, Bool, cond, List, [], ◌∷◌, ◌++◌, None, length, refl, ap, sym, ◌∙◌, append-nil, append_assoc, length-append, arith}
-use Rattle.std.specs.Option.{is_some}
-use Rattle.bd_space.specs.declared.step.Identity.{Identity}
-use Rattle.bd_space.specs.declared.space.Name.{Name}
-use Rattle.bd_space.specs.Names.{number_in}
-use Rattle.bd_records.specs.Numbers.{new_number, with_number}
+use Rattle.bd_records.proofs.Words.{Bool, Identity, List, Name, None, [], ap, append-nil, append_assoc, arith, cond, is_some, length, length-append, new_number, number_in, refl, sym, with_number, ℕ, ◌++◌, ◌∙◌, ◌∷◌, ◌≡◌, ◌≤◌}
 
 pub nil_of : {A : Type 0} (xs : List A) → length xs ≤ 0 → xs ≡ []
 nil_of [] h = refl

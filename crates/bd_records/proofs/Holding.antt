@@ -1,37 +1,7 @@
 -- What is kept and what is told of objects and references.
-use Rattle.std.proofs.Common.{◌≡◌, ℕ, ◌-◌, ◌==◌, nat_lt, Bool, true, false, not, cond, ◌&&◌, ◌||◌, List, [], ◌∷◌, Option, Some, None, refl, sym, ap, ◌∙◌, arith, count_by}
-use Rattle.std.proofs.lemmas.Bool.{eqb-true}
-use Rattle.std.specs.{Prelude.{option_map}, List.{list_any}}
-use Rattle.bd_ways.specs.Words.{beq, Identity, Object, Reference, Holder, Asked, Carried, Target, Handshake, Manager, same, without_first}
-use Rattle.bd_space.specs.References.{owned_in, is_asking, is_shaking, is_asked_by, is_handshake, gives_name_to, held_in, strong_in}
-use Rattle.bd_space.proofs.Identities.{same_eq}
-use Rattle.bd_records.specs.declared.{count.Count.{Count}, row.ObjectRow.{ObjectRow}, row.NameRow.{NameRow}}
-use Rattle.bd_records.specs.Count.{of_strength, is_empty}
-use Rattle.bd_records.specs.Counting.{turned, asked_of, carried_of, is_to, is_carrying, is_carried_to}
-use Rattle.bd_records.specs.{Buffers.{is_held}, Counted.{CountsAre}}
-use Rattle.bd_records.specs.Records.{is_owner}
-use Rattle.bd_records.proofs.Tallies.{Test, on, count_first}
-use Rattle.bd_records.proofs.Lists.{any_counts, found_is, found_passes}
-
--- ---- objects stay as they are
-
-module _ (O O' : Identity → Option ObjectRow) (more : Bool) (r : Reference)
-    (os : (o : Identity) → O' o ≡ cond (same r.object o) (option_map (turned more r) (O o)) (O o)) where
-  kept_object : (b m : Bool) (w : Option ObjectRow) → option_map (λ (v : ObjectRow). v.object) (cond b (option_map (turned m r) w) w) ≡ option_map (λ (v : ObjectRow). v.object) w
-  kept_object false m w = refl
-  kept_object true m None = refl
-  kept_object true true (Some v) = refl
-  kept_object true false (Some v) = refl
-
-  pub objects_same : (o : Identity) → option_map (λ (v : ObjectRow). v.object) (O' o) ≡ option_map (λ (v : ObjectRow). v.object) (O o)
-  objects_same o = ap (option_map (λ (v : ObjectRow). v.object)) (os o) ∙ kept_object (same r.object o) more (O o)
-
-  owner_is : (p : ℕ) (w : Option ObjectRow) → is_owner p w ≡ (elim (option_map (λ (v : ObjectRow). v.object) w) [ None ↦ false | Some x ↦ x.owner == p ])
-  owner_is p None = refl
-  owner_is p (Some v) = refl
-
-  pub owners_same : (p : ℕ) (o : Identity) → is_owner p (O' o) ≡ is_owner p (O o)
-  owners_same p o = owner_is p (O' o) ∙ ap (λ (x : Option Object). elim x [ None ↦ false | Some x ↦ x.owner == p ]) (objects_same o) ∙ sym (owner_is p (O o))
+use Rattle.bd_records.proofs.Words.{Asked, Bool, Carried, Count, CountsAre, Handshake, Holder, Identity, List, Manager, NameRow, Object, ObjectRow, Option, Reference, Some, Target, [], ap, arith, asked_of, beq, carried_of, cond, count_by, eqb-true, false, gives_name_to, held_in, is_asked_by}
+use Rattle.bd_records.proofs.Words.{is_asking, is_carried_to, is_carrying, is_empty, is_handshake, is_held, is_shaking, is_to, list_any, nat_lt, not, of_strength, owned_in, refl, same, same_eq, strong_in, sym, true, without_first, ℕ, ◌&&◌, ◌-◌, ◌||◌, ◌∙◌, ◌∷◌, ◌≡◌}
+use Rattle.bd_records.proofs.{Lists.{any_counts, found_is, found_passes}, Tallies.{Test, count_first, on}}
 
 -- ---- which reference goes
 

@@ -1,9 +1,5 @@
 -- A slab of records and a map of their slots: after a change each record is still found where the map says, and nothing else is there.
-use Rattle.std.proofs.Common.{◌≡◌, ℕ, ◌==◌, Bool, true, false, cond, Option, Some, None, refl, sym, ap, ◌∙◌, subst, arith, eqb-true}
-use Rattle.std.specs.Prelude.{option_map}
-use Rattle.bd_ways.specs.Words.{Identity, same}
-use Rattle.bd_space.proofs.Identities.{same_eq, same_self}
-use Rattle.bd_records.specs.Slots.{on_slot}
+use Rattle.bd_records.proofs.Words.{Bool, Identity, None, Option, Some, ap, arith, cond, eqb-true, false, on_slot, option_map, refl, same, same_eq, same_self, subst, sym, true, ℕ, ◌==◌, ◌∙◌, ◌≡◌}
 
 -- I: whose the record in a slot is; S: where each is
 abbrev pub AreFound : (ℕ → Option Identity) → (Identity → Option ℕ) → Type 0

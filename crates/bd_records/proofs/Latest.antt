@@ -1,8 +1,5 @@
 -- No identity is noted that is later than the latest.
-use Rattle.std.proofs.Common.{◌≡◌, ℕ, ◌≤◌, Bool, true, false, cond, ◌&&◌, Option, Some, None, refl, sym, ◌∙◌, subst, arith}
-use Rattle.bd_ways.specs.Words.{Identity, same}
-use Rattle.bd_space.proofs.Identities.{same_eq}
-use Rattle.bd_keys.specs.Numbers.{pair}
+use Rattle.bd_records.proofs.Words.{Bool, Identity, None, Option, Some, arith, cond, false, pair, refl, same, same_eq, subst, sym, true, ℕ, ◌&&◌, ◌∙◌, ◌≡◌, ◌≤◌}
 
 -- S: where each is
 abbrev pub NotLater : (Identity → Option ℕ) → ℕ → Type 0

@@ -1,3 +1,4 @@
+mod Words
 mod Keyed
 mod Latest
 mod Naming

@@ -1,12 +1,5 @@
 -- Names of which none has a number past the limit.
-use Rattle.std.proofs.Common.{◌≡◌, ℕ, ◌<◌, Bool, true, false, cond, eqb, List, [], ◌∷◌, ◌++◌, None, refl, ◌∙◌, filter, arith}
-use Rattle.std.specs.Prelude.{nat_lt}
-use Rattle.std.specs.List.{list_any}
-use Rattle.std.proofs.lemmas.List.Folds.{list_any-append}
-use Rattle.std.proofs.lemmas.Bool.{or_parts, or_from, eqb-true}
-use Rattle.std.proofs.lemmas.Bool.Decides.{nat_tests}
-use Rattle.bd_space.specs.declared.space.Name.{Name}
-use Rattle.bd_space.specs.Names.{named_in, has_number_past_limit}
+use Rattle.bd_records.proofs.Words.{Bool, List, Name, None, [], arith, cond, eqb, eqb-true, false, filter, has_number_past_limit, list_any, list_any-append, named_in, nat_lt, nat_tests, or_from, or_parts, refl, true, ℕ, ◌++◌, ◌<◌, ◌∙◌, ◌∷◌, ◌≡◌}
 
 none_filter : {A : Type 0} (p q : A → Bool) (xs : List A) → list_any p xs ≡ false → list_any p (filter q xs) ≡ false
 none_filter p q [] h = refl

@@ -1,12 +1,6 @@
 -- Maps that have at each key what is shown of the first with that key, when the list changes.
-use Rattle.std.proofs.Common.{◌≡◌, Bool, true, false, not, cond, List, [], ◌∷◌, ◌++◌, Option, Some, None, find, filter, option_map, refl, ap, sym, subst, ◌∙◌}
-use Rattle.std.specs.Option.{option_or}
-use Rattle.std.proofs.lemmas.List.Folds.{find-append}
-use Rattle.bd_keys.proofs.Options.{or_none}
-use Rattle.bd_space.specs.Words.{changed}
-use Rattle.bd_records.specs.ObjectKeys.{kept}
-use Rattle.bd_records.specs.Maps.{AreDistinct, Finds}
-use Rattle.bd_records.proofs.Found.{found_filter, found_changed}
+use Rattle.bd_records.proofs.Words.{AreDistinct, Bool, Finds, List, None, Option, Some, [], ap, changed, cond, false, filter, find, find-append, kept, not, option_map, option_or, or_none, refl, subst, sym, true, ◌++◌, ◌∙◌, ◌∷◌, ◌≡◌}
+use Rattle.bd_records.proofs.Found.{found_changed, found_filter}
 
 neither : {A : Type 0} (b : Bool) (o : Option A) → o ≡ None → cond b None o ≡ None
 neither true o h = refl

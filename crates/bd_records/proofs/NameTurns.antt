@@ -1,12 +1,6 @@
 -- The record under a number is changed where it stands, if it is of an object: each name is still found, and no other record is changed.
-use Rattle.std.proofs.Common.{◌≡◌, ℕ, ◌==◌, ◌&&◌, Bool, true, false, cond, Option, Some, None, refl, sym, ap, subst, ◌∙◌, arith, eqb-true}
-use Rattle.std.specs.Prelude.{option_map}
-use Rattle.bd_ways.specs.Words.{Identity, same}
-use Rattle.bd_space.proofs.Identities.{same_eq, same_self}
-use Rattle.bd_places.specs.Places.{is_there_and}
-use Rattle.bd_chains.specs.Chain.{is_at}
-use Rattle.bd_records.specs.{declared.row.NameRow.{NameRow}, NameRows.{object_of}, Slots.{on_slot}}
-use Rattle.bd_records.proofs.{Keyed.{set_found, set_leads, set_at, AreFound, Lead}, Naming.{by_process, own_process, same_slots}}
+use Rattle.bd_records.proofs.Words.{Bool, Identity, NameRow, None, Option, Some, ap, arith, cond, eqb-true, false, is_at, is_there_and, object_of, on_slot, option_map, refl, same, same_eq, same_self, subst, sym, true, ℕ, ◌&&◌, ◌==◌, ◌∙◌, ◌≡◌}
+use Rattle.bd_records.proofs.{Keyed.{AreFound, Lead, set_at, set_found, set_leads}, Naming.{by_process, own_process, same_slots}}
 
 abbrev is_of : Identity → NameRow → Bool
 is_of o w = same o w.object

@@ -1,23 +1,7 @@
 -- A space's names, when a record came or went.
-use Rattle.std.proofs.Common.{◌≡◌, ℕ, ◌<◌, ◌≤◌, ◌==◌, ◌&&◌, Bool, true, false, not, cond, List, [], ◌∷◌, ◌++◌, filter, find, Option, Some, None, is_some, refl, sym, ap, ◌∙◌, subst, arith, Result, Ok, Err, IfOk, OnOk, OnErr, IfSome, ◌^◌, inl, inr}
-use Rattle.std.specs.Prelude.{nat_lt, IfNone}
-use Rattle.std.proofs.lemmas.Bool.Decides.{nat_tests}
-use Rattle.std.proofs.lemmas.Bool.{and_parts, eqb-true, eq-eqb, cases_lt}
-use Rattle.bd_space.proofs.Identities.{same_eq, same_self}
-use Rattle.bd_ways.specs.Words.{Identity, Name, same}
-use Rattle.bd_space.specs.Names.{named_in, number_in}
-use Rattle.bd_records.specs.{declared.names.Names.{Names}, Names.{named_by, number_of}, NamesAre.{NamesAre, KeepsNames}}
-use Rattle.bd_numbered.specs.Numbered.{value_at, IsFreeAt}
-use Rattle.bd_chains.specs.Chain.{is_at}
-use Rattle.bd_keys.specs.Tables.{Makes}
-use Rattle.std.specs.Prelude.{option_map}
-use Rattle.bd_records.specs.NameRows.{object_of}
-use Rattle.bd_records.specs.Numbers.{new_number, with_number, IsFull, IsNextNumber}
-use Rattle.bd_records.specs.Sound.{has_number, has_object}
-use Rattle.bd_records.proofs.Limits.{fits_push, fits_filter, past_unnamed}
-use Rattle.bd_records.proofs.FreeNumbers.{free_first, free_past}
-use Rattle.bd_records.proofs.Freeing.{used_named, free_unnamed}
-use Rattle.bd_records.proofs.NamesFound.{came_sound, came_object, came_number, gone_sound, gone_object, gone_number, none_gone}
+use Rattle.bd_records.proofs.Words.{Bool, Identity, IfNone, IfSome, IsNextNumber, KeepsNames, List, Name, Names, NamesAre, None, Option, Some, [], and_parts, ap, arith, cases_lt, cond, eq-eqb, eqb-true, false, filter, find, has, has_number, has_object, inl, inr, is_at, is_some, named_by, named_in}
+use Rattle.bd_records.proofs.Words.{nat_lt, nat_tests, new_number, not, number_in, number_of, option_map, refl, same, same_eq, subst, sym, true, with_number, ℕ, ◌&&◌, ◌++◌, ◌<◌, ◌==◌, ◌^◌, ◌∙◌, ◌∷◌, ◌≡◌, ◌≤◌}
+use Rattle.bd_records.proofs.{FreeNumbers.{free_first, free_past}, Freeing.{free_unnamed, used_named}, Limits.{fits_filter, fits_push, past_unnamed}, NamesFound.{came_number, came_object, came_sound, gone_number, gone_object, gone_sound, none_gone}}
 
 abbrev name : ℕ → ℕ → Identity → Name
 name p n o = record { process = p; number = n; object = o }
@@ -82,27 +66,9 @@ none_taken t u l p o h none objects numbers =
     subst (NamesAre u) (sym (none_gone l h.sound p o (h.numbers_are p o ∙ none)))
     (record { sound = h.sound; objects_are = λ q m. h.objects_are q m ∙ sym (objects q m); numbers_are = λ q x. h.numbers_are q x ∙ sym (numbers q x); fits = h.fits })
 
-some_shown : {A B : Type 0} (f : A → B) (v : Option A) → is_some (option_map f v) ≡ is_some v
+pub some_shown : {A B : Type 0} (f : A → B) (v : Option A) → is_some (option_map f v) ≡ is_some v
 some_shown f None = refl
 some_shown f (Some x) = refl
-
--- a new name's number, or that there is none, as the definition has it
-pub ok_given : {E : Type 0} (r : Result ℕ E) (t u : Names) (zero : Bool) (p : ℕ) (o : Identity) → number_of t p o ≡ None
-    → IfOk r (λ n. IsFreeAt (cond zero 0 1) t.rows p n) → IfOk r (λ n. n ≤ 4294967294)
-    → IfOk r (λ n. (q m : ℕ) → named_by u q m ≡ cond ((p == q) && (n == m)) (Some o) (named_by t q m))
-    → IfOk r (λ n. (q : ℕ) (x : Identity) → number_of u q x ≡ cond ((p == q) && same o x) (Some n) (number_of t q x))
-    → OnOk r (Makes (NamesAre t) (NamesAre u) (λ l. with_number zero p l o))
-ok_given (Err e) t u zero p o lacks free small objects numbers = tt
-ok_given (Ok n) t u zero p o lacks free small objects numbers = λ l h.
-    given t u l zero p n o h small lacks
-    (new_is t l h zero p n (ap (option_map object_of) free.free) free.from (λ m a b. some_shown object_of (value_at t.rows p m) ∙ free.before m a b))
-    objects numbers
-
-pub full_given : {E : Type 0} (r : Result ℕ E) (t : Names) (zero : Bool) (p : ℕ) (o : Identity)
-    → number_of t p o ≡ None → OnErr r ((m : ℕ) → cond zero 0 1 ≤ m → m ≤ 4294967294 → is_some (named_by t p m) ≡ true)
-    → OnErr r ((l : List Name) → NamesAre t l → IsFull zero p l o)
-full_given (Ok n) t zero p o lacks full = tt
-full_given (Err e) t zero p o lacks full = λ l h. record { lacks = h.numbers_are p o ∙ lacks; past = past_is t l h zero p full }
 
 -- the name goes that there is, if there is one
 pub gone : (t u : Names) (p : ℕ) (o : Identity) (k : Option ℕ) → number_of t p o ≡ k
@@ -131,14 +97,6 @@ next_is t l h p from None none le there before = λ n le. elim (cases_lt n 42949
   | inr ge ↦ past_unnamed l h.fits p n (omega (arith, ge))
 ]
 next_is t l h p from (Some n) none le there before = (le, ap is_some (h.objects_are p n) ∙ there, λ m le lt. h.objects_are p m ∙ before m le lt)
-
--- the object's number is the one that was answered
-pub here_number : {E : Type 0} (r : Result ℕ E) (p : ℕ) (o : Identity) (N M : ℕ → Identity → Option ℕ) → IfOk r (λ n. (q : ℕ) (x : Identity) → M q x ≡ cond ((p == q) && same o x) (Some n) (N q x)) → IfOk r (λ n. M p o ≡ Some n)
-here_number (Err e) p o N M h = tt
-here_number (Ok n) p o N M h = h p o ∙ ap (λ b. cond b (Some n) (N p o)) here
-  where
-    here : ((p == p) && same o o) ≡ true
-    here = rw (eq-eqb p p refl, same_self o) refl
 
 none_either : {A : Type 0} (b : Bool) → (let n : Option A = None in n ≡ cond b n n)
 none_either true = refl

@@ -1,20 +1,7 @@
 -- Names by process and number, and by process and object, as names come and go. No two of a process have one number.
-use Rattle.std.proofs.Common.{◌≡◌, ℕ, ◌≤◌, Bool, true, false, not, cond, ◌&&◌, eqb, List, [], ◌∷◌, ◌++◌, Option, Some, None, find, filter, refl, ap, sym, ◌∙◌, subst, arith}
-use Rattle.std.specs.List.{count_by}
-use Rattle.std.specs.Option.{option_map, option_or, option_and_then}
-use Rattle.std.proofs.lemmas.List.Folds.{find-append}
-use Rattle.std.proofs.lemmas.Bool.{eqb-true, eq-eqb, and_parts, and_from}
-use Rattle.std.specs.Cmp.{both_ways}
-use Rattle.bd_keys.proofs.Found.{found_passes}
-use Rattle.bd_keys.proofs.Options.{none_mapped}
-use Rattle.bd_space.specs.declared.step.Identity.{Identity}
-use Rattle.bd_space.specs.declared.space.Name.{Name}
-use Rattle.bd_space.specs.Words.{same}
-use Rattle.bd_space.specs.Names.{named_in, number_in}
-use Rattle.bd_space.proofs.Identities.{same_eq, same_turned}
-use Rattle.bd_records.specs.Sound.{Sound, has_number, has_object}
-use Rattle.bd_records.proofs.Singles.{find_filter, few_push, few_filter, only, none_count, none_dropped}
-use Rattle.bd_records.proofs.Turned.{turned}
+use Rattle.bd_records.proofs.Words.{Bool, Identity, List, Name, None, Option, Some, Sound, [], and_from, and_parts, ap, arith, both_ways, cond, count_by, eq-eqb, eqb, eqb-true, false, filter, find, find-append, found_passes, has_number, has_object, named_in, none_mapped, not, number_in}
+use Rattle.bd_records.proofs.Words.{option_and_then, option_map, option_or, refl, same, same_eq, same_turned, subst, sym, true, ℕ, ◌&&◌, ◌++◌, ◌∙◌, ◌∷◌, ◌≡◌, ◌≤◌}
+use Rattle.bd_records.proofs.{Singles.{few_filter, few_push, find_filter, none_count, none_dropped, only}, Turned.{turned}}
 
 find_push : {A : Type 0} (key : A → Bool) (xs : List A) (x : A) → find key (xs ++ x ∷ []) ≡ option_or (find key xs) (cond (key x) (Some x) None)
 find_push key xs x = find-append key xs (x ∷ [])

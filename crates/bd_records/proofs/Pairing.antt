@@ -1,12 +1,7 @@
 -- References on two lists each, as they come and go.
-use Rattle.std.proofs.Common.{◌≡◌, ℕ, ◌==◌, Bool, true, false, cond, List, [], ◌∷◌, ◌++◌, length, map, Option, Some, refl, sym, ap, ◌∙◌, subst, arith, eqb-true}
-use Rattle.std.specs.{Prelude.{option_map}}
-use Rattle.std.proofs.lemmas.Bool.{eq-eqb}
-use Rattle.bd_ways.specs.Words.{Reference}
-use Rattle.bd_chains.specs.{declared.links.Held.{Held}, Chain.{distinct, has}, Rows.{Row, keys, row_at, values, drop_key}, Setting.{set_row, with_value}, Lists.{AreListed}}
-use Rattle.bd_chains.proofs.Rowing.{drop_none}
-use Rattle.bd_records.specs.declared.lying.Lying.{Lying}
-use Rattle.bd_records.specs.Lying.{references, lying_at, Paired}
+use Rattle.bd_records.proofs.Words.{AreListed, Bool, Held, List, Lying, Option, Paired, Reference, Row, Some, [], ap, arith, cond, distinct, drop_key, drop_none, eq-eqb, eqb-true, false, has, keys, length, lying_at, map, option_map, references, refl, set_row, subst, sym, true, values, with_value, ℕ}
+use Rattle.bd_records.proofs.Words.{◌++◌, ◌==◌, ◌∙◌, ◌∷◌, ◌≡◌}
+use Rattle.bd_chains.specs.Rows.{row_at}
 
 abbrev pub reference_of : Lying → Reference
 reference_of v = v.reference

@@ -1,24 +1,8 @@
 -- The objects of each process, as they come and go.
-use Rattle.std.proofs.Common.{◌≡◌, ℕ, ◌==◌, ◌≤◌, ◌<◌, Bool, true, false, not, cond, List, [], ◌∷◌, ◌++◌, filter, map, find, Option, Some, None, is_some, refl, sym, ap, ◌∙◌, subst, arith, eqb-true}
-use Rattle.std.specs.Prelude.{option_map}
-use Rattle.std.proofs.lemmas.Bool.{eq-eqb}
-use Rattle.bd_ways.specs.Words.{Identity, Object, same}
-use Rattle.bd_space.specs.References.{object_in}
-use Rattle.bd_space.proofs.Identities.{same_eq, same_self}
-use Rattle.bd_keys.proofs.Found.{found_passes}
-use Rattle.bd_keys.specs.declared.key.WordKey.{WordKey}
-use Rattle.bd_keys.specs.Keys.{same_word}
-use Rattle.bd_keys.specs.Look.{look}
-use Rattle.bd_chains.specs.{declared.links.Held.{Held}, Chain.{distinct, has}, Rows.{Row, keys, values, row_at, drop_key}}
-use Rattle.bd_chains.proofs.Rowing.{at_more, at_less, drop_none}
-use Rattle.bd_records.specs.ObjectKeys.{id_key, own_key}
-use Rattle.bd_records.specs.Maps.{AreDistinct}
-use Rattle.bd_keys.proofs.Keys.{word_eq, word_self}
-use Rattle.bd_records.proofs.Distinct.{cons_none, none_cons, away_none}
-use Rattle.bd_records.proofs.Found.{found_own}
-use Rattle.bd_records.proofs.Changes.{by_own}
-use Rattle.bd_records.specs.declared.{owned.Owned.{Owned}, owned.Spot.{Spot}, owned.Possession.{Possession}}
-use Rattle.bd_records.specs.Owned.{possession, stands_at, id_at, OwnedAre}
+use Rattle.bd_records.proofs.Words.{AreDistinct, Bool, Held, Identity, List, None, Object, Option, Owned, OwnedAre, Possession, Row, Some, Spot, WordKey, [], ap, arith, at_less, at_more, cond, distinct, drop_key, drop_none, eq-eqb, eqb-true, false, filter, find, found_passes, has, id_at, id_key}
+use Rattle.bd_records.proofs.Words.{is_some, keys, look, map, not, object_in, option_map, own_key, possession, refl, same, same_eq, same_self, same_word, stands_at, subst, sym, true, values, word_eq, word_self, ℕ, ◌++◌, ◌<◌, ◌==◌, ◌∙◌, ◌∷◌, ◌≡◌, ◌≤◌}
+use Rattle.bd_records.proofs.{Changes.{by_own}, Distinct.{away_none, cons_none, none_cons}, Found.{found_own}}
+use Rattle.bd_chains.specs.Rows.{row_at}
 
 abbrev pub id_of : Possession → Identity
 id_of v = v.id

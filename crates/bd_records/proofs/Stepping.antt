@@ -1,11 +1,5 @@
 -- The numbers of a process, one after the other.
-use Rattle.std.specs.Prelude.{IfNone}
-use Rattle.std.proofs.Common.{◌≡◌, ℕ, ◌==◌, ◌<◌, ◌≤◌, ◌+◌, ◌-◌, ◌^◌, IfSome, Bool, true, false, cond, Option, Some, None, refl, ap, sym, subst, ◌∙◌, inl, inr, arith}
-use Rattle.std.specs.Prelude.{option_map}
-use Rattle.std.proofs.lemmas.Bool.{cases_lt, eqb-true}
-use Rattle.bd_ways.specs.Words.{Identity}
-use Rattle.bd_records.specs.declared.row.NameRow.{NameRow}
-use Rattle.bd_records.specs.{NameRows.{object_of}, Slots.{on_slot}}
+use Rattle.bd_records.proofs.Words.{Bool, Identity, IfNone, IfSome, NameRow, None, Option, Some, ap, arith, cases_lt, cond, eqb-true, false, inl, inr, object_of, on_slot, option_map, refl, subst, sym, true, ℕ, ◌+◌, ◌-◌, ◌<◌, ◌==◌, ◌^◌, ◌∙◌, ◌≡◌, ◌≤◌}
 
 -- the numbers that were looked at when this is the next
 abbrev pub IsBefore : Option ℕ → ℕ → Type 0

@@ -1,25 +1,84 @@
 -- Each counter, when a reference came or went.
-use Rattle.std.proofs.Common.{◌≡◌, ℕ, ◌+◌, ◌-◌, ◌<◌, ◌≤◌, ◌==◌, Bool, true, false, cond, ◌&&◌, List, [], ◌∷◌, ◌++◌, length, Option, Some, None, is_some, find, refl, sym, ap, ◌∙◌, subst, arith, count_by}
-use Rattle.std.proofs.lemmas.List.Sums.{sum_by-cons, sum_by_push, count_by-le-length}
-use Rattle.std.specs.Prelude.{option_map}
-use Rattle.bd_ways.specs.Words.{beq, Identity, Object, Reference, Holder, Asked, Carried, Target, Handshake, Manager, same, without_first}
-use Rattle.bd_space.specs.References.{owned_in, is_asking, is_shaking, is_asked_by, is_handshake, gives_name_to}
-use Rattle.bd_records.specs.declared.{count.Count.{Count}, row.ObjectRow.{ObjectRow}, row.NameRow.{NameRow}}
-use Rattle.bd_records.specs.Count.{of_strength, one_more}
-use Rattle.bd_records.specs.Counting.{one_less, counting, discounting, name_counting, name_discounting, total_of, owed_of, managed_of, asked_of, carried_of, is_to, is_managing, is_managers, is_carrying, is_carried_to}
-use Rattle.bd_records.specs.Counted.{CountsAre}
+use Rattle.bd_records.proofs.Words.{Asked, Bool, BuffersAre, Carried, Count, CountsAre, Handshake, Holder, Identity, IsHomed, List, Manager, None, Object, ObjectRow, Option, OwnedAre, Records, RecordsAre, Reference, Some, Target, [], ap, arith, asked_of, beq, carried_of, cond, count_by}
+use Rattle.bd_records.proofs.Words.{count_by-le-length, false, find, gives_name_to, is_asked, is_asked_by, is_asking, is_carried, is_carried_to, is_carrying, is_handshake, is_managers, is_managing, is_owner, is_shaking, is_some, is_to, length, managed_of, name_at, name_turned, no_count, of_strength}
+use Rattle.bd_records.proofs.Words.{option_map, owed_of, owned_in, refl, row_at, same, same_eq, subst, sum_by-cons, sum_by_push, sym, total_of, true, turned, turned_count, turned_if, without_first, ℕ, ◌&&◌, ◌++◌, ◌+◌, ◌-◌, ◌<◌, ◌∙◌, ◌∷◌, ◌≡◌, ◌≤◌}
 
-more_strength : (s b : Bool) (c : Count) (n : ℕ) → of_strength s c ≡ n → n < 18446744073709551615 → of_strength s (one_more b c) ≡ n + cond (beq b s) 1 0
-more_strength true true c n e few = grind (arith, e)
-more_strength true false c n e few = grind (arith, e)
-more_strength false true c n e few = grind (arith, e)
-more_strength false false c n e few = grind (arith, e)
+-- ---- one counter
 
-less_strength : (s b : Bool) (c : Count) (n : ℕ) → of_strength s c ≡ n → of_strength s (one_less b c) ≡ n - cond (beq b s) 1 0
-less_strength true true c n e = grind (arith, e)
-less_strength true false c n e = grind (arith, e)
-less_strength false true c n e = grind (arith, e)
-less_strength false false c n e = grind (arith, e)
+-- with so many more, or fewer
+abbrev pub after : Bool → ℕ → ℕ → ℕ
+after true n k = n + k
+after false n k = n - k
+
+none_after : (more k : Bool) (n : ℕ) → k ≡ false → after more n (cond k 1 0) ≡ n
+none_after true k n e = grind (arith, e)
+none_after false k n e = grind (arith, e)
+
+pub none_of_either : (s : Bool) → of_strength s no_count ≡ 0
+none_of_either true = refl
+none_of_either false = refl
+
+and_true : (b : Bool) → (b && true) ≡ b
+and_true true = refl
+and_true false = refl
+
+and_false : (b : Bool) → (b && false) ≡ false
+and_false true = refl
+and_false false = refl
+
+turned_strength : (more s b : Bool) (c : Count) (n : ℕ) → of_strength s c ≡ n → (more ≡ true → n < 18446744073709551615) → of_strength s (turned_count more b c) ≡ after more n (cond (beq b s) 1 0)
+turned_strength true true true c n e few = grind (arith, e, few refl)
+turned_strength true true false c n e few = grind (arith, e)
+turned_strength true false true c n e few = grind (arith, e)
+turned_strength true false false c n e few = grind (arith, e, few refl)
+turned_strength false true true c n e few = grind (arith, e)
+turned_strength false true false c n e few = grind (arith, e)
+turned_strength false false true c n e few = grind (arith, e)
+turned_strength false false false c n e few = grind (arith, e)
+
+turned_few : (more s b : Bool) (c : Count) (n : ℕ) → of_strength s c ≤ n → of_strength s (turned_count more b c) ≤ after more n (cond (beq b s) 1 0)
+turned_few true true true c n e = grind (arith, e)
+turned_few true true false c n e = grind (arith, e)
+turned_few true false true c n e = grind (arith, e)
+turned_few true false false c n e = grind (arith, e)
+turned_few false true true c n e = grind (arith, e)
+turned_few false true false c n e = grind (arith, e)
+turned_few false false true c n e = grind (arith, e)
+turned_few false false false c n e = grind (arith, e)
+
+-- d: the record is the reference's; t: the counter is one that it belongs to
+module _ {W : Type 0} (f : Option W → Count) (up : W → W) (more b t : Bool) (up_is : (v : W) → f (Some (up v)) ≡ turned_if t more b (f (Some v))) (none : f None ≡ no_count) (s : Bool) (n : ℕ) where
+  off : (t : Bool) → ((beq b s && false) && t) ≡ false
+  off t = ap (λ k. k && t) (and_false (beq b s))
+
+  on_both : ((beq b s && true) && true) ≡ beq b s
+  on_both = and_true (beq b s && true) ∙ and_true (beq b s)
+
+  counted : (d : Bool) (w : Option W) → (more ≡ true → n < 18446744073709551615) → (more ≡ true → (d && t) ≡ true → is_some w ≡ true) → of_strength s (f w) ≡ n
+      → of_strength s (f (cond d (option_map up w) w)) ≡ after more n (cond ((beq b s && d) && t) 1 0)
+  counted false w few there e = e ∙ sym (none_after more _ n (off t))
+  counted true (Some v) few there e = at t (up_is v)
+    where
+      at : (u : Bool) → f (Some (up v)) ≡ turned_if u more b (f (Some v)) → of_strength s (f (Some (up v))) ≡ after more n (cond ((beq b s && true) && u) 1 0)
+      at true is = ap (of_strength s) is ∙ turned_strength more s b (f (Some v)) n e few ∙ ap (λ k. after more n (cond k 1 0)) (sym on_both)
+      at false is = ap (of_strength s) is ∙ e ∙ sym (none_after more _ n (and_false (beq b s && true)))
+  counted true None few there e = at more t there
+    where
+      at : (m u : Bool) → (m ≡ true → u ≡ true → false ≡ true) → of_strength s (f None) ≡ after m n (cond ((beq b s && true) && u) 1 0)
+      at true true here = absurd (let h = here refl refl in cc)
+      at true false here = e ∙ sym (none_after true _ n (and_false (beq b s && true)))
+      at false u here = let z = ap (of_strength s) none ∙ none_of_either s in omega (arith, e, z)
+
+  counted_few : (d : Bool) (w : Option W) → of_strength s (f w) ≤ n → of_strength s (f (cond d (option_map up w) w)) ≤ after more n (cond ((beq b s && d) && t) 1 0)
+  counted_few false w e = subst (λ k. of_strength s (f w) ≤ k) (sym (none_after more _ n (off t))) e
+  counted_few true (Some v) e = at t (up_is v)
+    where
+      at : (u : Bool) → f (Some (up v)) ≡ turned_if u more b (f (Some v)) → of_strength s (f (Some (up v))) ≤ after more n (cond ((beq b s && true) && u) 1 0)
+      at true is = subst (λ c. of_strength s c ≤ after more n (cond ((beq b s && true) && true) 1 0)) (sym is) (subst (λ k. of_strength s (turned_count more b (f (Some v))) ≤ after more n (cond k 1 0)) (sym on_both) (turned_few more s b (f (Some v)) n e))
+      at false is = subst (λ c. of_strength s c ≤ after more n (cond ((beq b s && true) && false) 1 0)) (sym is) (subst (λ k. of_strength s (f (Some v)) ≤ k) (sym (none_after more _ n (and_false (beq b s && true)))) e)
+  counted_few true None e = subst (λ c. of_strength s c ≤ after more n (cond ((beq b s && true) && t) 1 0)) (sym none) (subst (λ k. k ≤ after more n (cond ((beq b s && true) && t) 1 0)) (sym (none_of_either s)) (omega arith))
+
+-- ---- which counters
 
 asked_gives : (p : ℕ) (h : Holder) → is_asked_by p h ≡ true → gives_name_to p h ≡ true
 asked_gives p (Asked q) e = e
@@ -28,148 +87,21 @@ asked_gives p (Target c q) e = absurd cc
 asked_gives p Handshake e = absurd cc
 asked_gives p Manager e = absurd cc
 
--- ---- one more
+asked_hit : (p : ℕ) (a b : Bool) (h : Holder) → ((a && (gives_name_to p h && b)) && is_asked h) ≡ ((a && b) && is_asked_by p h)
+asked_hit p a b (Asked q) = grind arith
+asked_hit p a b (Carried c q) = grind arith
+asked_hit p a b (Target c q) = grind arith
+asked_hit p a b Handshake = grind arith
+asked_hit p a b Manager = grind arith
 
--- b: the reference is to the object
-total_more : (b : Bool) (w : Option ObjectRow) (r : Reference) (s : Bool) (n : ℕ) → (b ≡ true → is_some w ≡ true) → of_strength s (total_of w) ≡ n → n < 18446744073709551615
-    → of_strength s (total_of (cond b (option_map (counting r) w) w)) ≡ n + cond (beq r.strong s && b) 1 0
-total_more false w r s n here e few = grind (arith, e)
-total_more true None r s n here e few = absurd (let h = here refl in cc)
-total_more true (Some v) r s n here e few = more_strength s r.strong v.total n e few ∙ grind arith
-
-owed_more : (b : Bool) (w : Option ObjectRow) (r : Reference) (h : Holder) → r.holder ≡ h → (s : Bool) (n : ℕ) → (b ≡ true → is_some w ≡ true) → of_strength s (owed_of w) ≡ n → n < 18446744073709551615
-    → of_strength s (owed_of (cond b (option_map (counting r) w) w)) ≡ n + cond (beq r.strong s && b && is_handshake h) 1 0
-owed_more false w r h is s n here e few = grind (arith, e)
-owed_more true None r h is s n here e few = absurd (let h = here refl in cc)
-owed_more true (Some v) r (Asked q) is s n here e few = grind (arith, e, is)
-owed_more true (Some v) r (Carried d q) is s n here e few = grind (arith, e, is)
-owed_more true (Some v) r (Target d q) is s n here e few = grind (arith, e, is)
-owed_more true (Some v) r Manager is s n here e few = grind (arith, e, is)
-owed_more true (Some v) r Handshake is s n here e few = grind (arith, is, more_strength s r.strong v.owed n e few)
-
-managed_more : (b : Bool) (w : Option ObjectRow) (r : Reference) (h : Holder) → r.holder ≡ h → (s : Bool) (n : ℕ) → (b ≡ true → is_some w ≡ true) → of_strength s (managed_of w) ≡ n → n < 18446744073709551615
-    → of_strength s (managed_of (cond b (option_map (counting r) w) w)) ≡ n + cond (beq r.strong s && b && is_managers h) 1 0
-managed_more false w r h is s n here e few = grind (arith, e)
-managed_more true None r h is s n here e few = absurd (let h = here refl in cc)
-managed_more true (Some v) r (Asked q) is s n here e few = grind (arith, e, is)
-managed_more true (Some v) r (Carried d q) is s n here e few = grind (arith, e, is)
-managed_more true (Some v) r (Target d q) is s n here e few = grind (arith, e, is)
-managed_more true (Some v) r Handshake is s n here e few = grind (arith, e, is)
-managed_more true (Some v) r Manager is s n here e few = grind (arith, is, more_strength s r.strong v.managed n e few)
-
-asked_more : (p : ℕ) (b : Bool) (w : Option NameRow) (r : Reference) (h : Holder) → r.holder ≡ h → (s : Bool) (n : ℕ) → ((is_asked_by p h && b) ≡ true → is_some w ≡ true) → of_strength s (asked_of w) ≡ n → n < 18446744073709551615
-    → of_strength s (asked_of (cond (gives_name_to p h && b) (option_map (name_counting r) w) w)) ≡ n + cond (beq r.strong s && b && is_asked_by p h) 1 0
-asked_more p b w r (Asked q) is s n here e few = at ((q == p) && b) refl w here e
-  where
-    at : (d : Bool) → ((q == p) && b) ≡ d → (w : Option NameRow) → (d ≡ true → is_some w ≡ true) → of_strength s (asked_of w) ≡ n → of_strength s (asked_of (cond d (option_map (name_counting r) w) w)) ≡ n + cond (beq r.strong s && b && (q == p)) 1 0
-    at false f w here e = grind (arith, e, f)
-    at true f None here e = absurd (let h = here refl in cc)
-    at true f (Some v) here e = grind (arith, is, f, more_strength s r.strong v.asked n e few)
-asked_more p b None r (Carried d q) is s n here e few = grind (arith, e, is)
-asked_more p b (Some v) r (Carried d q) is s n here e few = grind (arith, e, is)
-asked_more p b w r (Target d q) is s n here e few = grind (arith, e, is)
-asked_more p b w r Manager is s n here e few = grind (arith, e, is)
-asked_more p b w r Handshake is s n here e few = grind (arith, e, is)
-
-carried_more : (p : ℕ) (b : Bool) (w : Option NameRow) (r : Reference) (h : Holder) → r.holder ≡ h → (s : Bool) (n : ℕ) → ((gives_name_to p h && b) ≡ true → is_some w ≡ true) → of_strength s (carried_of w) ≡ n → n < 18446744073709551615
-    → of_strength s (carried_of (cond (gives_name_to p h && b) (option_map (name_counting r) w) w)) ≡ n + cond (beq r.strong s && b && is_carried_to p h) 1 0
-carried_more p b w r (Carried c q) is s n here e few = at ((q == p) && b) refl w here e
-  where
-    at : (d : Bool) → ((q == p) && b) ≡ d → (w : Option NameRow) → (d ≡ true → is_some w ≡ true) → of_strength s (carried_of w) ≡ n → of_strength s (carried_of (cond d (option_map (name_counting r) w) w)) ≡ n + cond (beq r.strong s && b && (q == p)) 1 0
-    at false f w here e = grind (arith, e, f)
-    at true f None here e = absurd (let h = here refl in cc)
-    at true f (Some v) here e = grind (arith, is, f, more_strength s r.strong v.carried n e few)
-carried_more p b None r (Asked q) is s n here e few = grind (arith, e, is)
-carried_more p b (Some v) r (Asked q) is s n here e few = grind (arith, e, is)
-carried_more p b w r (Target d q) is s n here e few = grind (arith, e, is)
-carried_more p b w r Manager is s n here e few = grind (arith, e, is)
-carried_more p b w r Handshake is s n here e few = grind (arith, e, is)
-
-more_few : (s b : Bool) (c : Count) (n : ℕ) → of_strength s c ≤ n → of_strength s (one_more b c) ≤ n + cond (beq b s) 1 0
-more_few true true c n e = grind (arith, e)
-more_few true false c n e = grind (arith, e)
-more_few false true c n e = grind (arith, e)
-more_few false false c n e = grind (arith, e)
-
-carried_more_few : (p : ℕ) (b : Bool) (w : Option NameRow) (r : Reference) (h : Holder) → r.holder ≡ h → (s : Bool) (n : ℕ) → of_strength s (carried_of w) ≤ n
-    → of_strength s (carried_of (cond (gives_name_to p h && b) (option_map (name_counting r) w) w)) ≤ n + cond (beq r.strong s && b && is_carried_to p h) 1 0
-carried_more_few p b w r (Carried c q) is s n e = at ((q == p) && b) refl w e
-  where
-    at : (d : Bool) → ((q == p) && b) ≡ d → (w : Option NameRow) → of_strength s (carried_of w) ≤ n → of_strength s (carried_of (cond d (option_map (name_counting r) w) w)) ≤ n + cond (beq r.strong s && b && (q == p)) 1 0
-    at false f w e = grind (arith, e, f)
-    at true f None e = grind (arith, e)
-    at true f (Some v) e = grind (arith, is, f, more_few s r.strong v.carried n e)
-carried_more_few p b None r (Asked q) is s n e = grind (arith, e, is)
-carried_more_few p b (Some v) r (Asked q) is s n e = grind (arith, e, is)
-carried_more_few p b w r (Target d q) is s n e = grind (arith, e, is)
-carried_more_few p b w r Manager is s n e = grind (arith, e, is)
-carried_more_few p b w r Handshake is s n e = grind (arith, e, is)
-
--- ---- one fewer
-
-total_less : (b : Bool) (w : Option ObjectRow) (r : Reference) (s : Bool) (n : ℕ) → of_strength s (total_of w) ≡ n → of_strength s (total_of (cond b (option_map (discounting r) w) w)) ≡ n - cond (beq r.strong s && b) 1 0
-total_less false w r s n e = grind (arith, e)
-total_less true None r true n e = grind (arith, e)
-total_less true None r false n e = grind (arith, e)
-total_less true (Some v) r s n e = less_strength s r.strong v.total n e ∙ grind arith
-
-owed_less : (b : Bool) (w : Option ObjectRow) (r : Reference) (h : Holder) → r.holder ≡ h → (s : Bool) (n : ℕ) → of_strength s (owed_of w) ≡ n → of_strength s (owed_of (cond b (option_map (discounting r) w) w)) ≡ n - cond (beq r.strong s && b && is_handshake h) 1 0
-owed_less false w r h is s n e = grind (arith, e)
-owed_less true None r h is true n e = grind (arith, e)
-owed_less true None r h is false n e = grind (arith, e)
-owed_less true (Some v) r (Asked q) is s n e = grind (arith, e, is)
-owed_less true (Some v) r (Carried d q) is s n e = grind (arith, e, is)
-owed_less true (Some v) r (Target d q) is s n e = grind (arith, e, is)
-owed_less true (Some v) r Manager is s n e = grind (arith, e, is)
-owed_less true (Some v) r Handshake is s n e = grind (arith, is, less_strength s r.strong v.owed n e)
-
-managed_less : (b : Bool) (w : Option ObjectRow) (r : Reference) (h : Holder) → r.holder ≡ h → (s : Bool) (n : ℕ) → of_strength s (managed_of w) ≡ n → of_strength s (managed_of (cond b (option_map (discounting r) w) w)) ≡ n - cond (beq r.strong s && b && is_managers h) 1 0
-managed_less false w r h is s n e = grind (arith, e)
-managed_less true None r h is true n e = grind (arith, e)
-managed_less true None r h is false n e = grind (arith, e)
-managed_less true (Some v) r (Asked q) is s n e = grind (arith, e, is)
-managed_less true (Some v) r (Carried d q) is s n e = grind (arith, e, is)
-managed_less true (Some v) r (Target d q) is s n e = grind (arith, e, is)
-managed_less true (Some v) r Handshake is s n e = grind (arith, e, is)
-managed_less true (Some v) r Manager is s n e = grind (arith, is, less_strength s r.strong v.managed n e)
-
-asked_less : (p : ℕ) (b : Bool) (w : Option NameRow) (r : Reference) (h : Holder) → r.holder ≡ h → (s : Bool) (n : ℕ) → of_strength s (asked_of w) ≡ n
-    → of_strength s (asked_of (cond (gives_name_to p h && b) (option_map (name_discounting r) w) w)) ≡ n - cond (beq r.strong s && b && is_asked_by p h) 1 0
-asked_less p b w r (Asked q) is s n e = at ((q == p) && b) refl w s e
-  where
-    at : (d : Bool) → ((q == p) && b) ≡ d → (w : Option NameRow) (s : Bool) → of_strength s (asked_of w) ≡ n → of_strength s (asked_of (cond d (option_map (name_discounting r) w) w)) ≡ n - cond (beq r.strong s && b && (q == p)) 1 0
-    at false f w s e = grind (arith, e, f)
-    at true f None true e = grind (arith, e)
-    at true f None false e = grind (arith, e)
-    at true f (Some v) s e = grind (arith, is, f, less_strength s r.strong v.asked n e)
-asked_less p b None r (Carried d q) is s n e = grind (arith, e, is)
-asked_less p b (Some v) r (Carried d q) is s n e = grind (arith, e, is)
-asked_less p b w r (Target d q) is s n e = grind (arith, e, is)
-asked_less p b w r Manager is s n e = grind (arith, e, is)
-asked_less p b w r Handshake is s n e = grind (arith, e, is)
-
-carried_less : (p : ℕ) (b : Bool) (w : Option NameRow) (r : Reference) (h : Holder) → r.holder ≡ h → (s : Bool) (n : ℕ) → of_strength s (carried_of w) ≡ n
-    → of_strength s (carried_of (cond (gives_name_to p h && b) (option_map (name_discounting r) w) w)) ≡ n - cond (beq r.strong s && b && is_carried_to p h) 1 0
-carried_less p b w r (Carried c q) is s n e = at ((q == p) && b) refl w s e
-  where
-    at : (d : Bool) → ((q == p) && b) ≡ d → (w : Option NameRow) (s : Bool) → of_strength s (carried_of w) ≡ n → of_strength s (carried_of (cond d (option_map (name_discounting r) w) w)) ≡ n - cond (beq r.strong s && b && (q == p)) 1 0
-    at false f w s e = grind (arith, e, f)
-    at true f None true e = grind (arith, e)
-    at true f None false e = grind (arith, e)
-    at true f (Some v) s e = grind (arith, is, f, less_strength s r.strong v.carried n e)
-carried_less p b None r (Asked q) is s n e = grind (arith, e, is)
-carried_less p b (Some v) r (Asked q) is s n e = grind (arith, e, is)
-carried_less p b w r (Target d q) is s n e = grind (arith, e, is)
-carried_less p b w r Manager is s n e = grind (arith, e, is)
-carried_less p b w r Handshake is s n e = grind (arith, e, is)
+carried_hit : (p : ℕ) (a b : Bool) (h : Holder) → ((a && (gives_name_to p h && b)) && is_carried h) ≡ ((a && b) && is_carried_to p h)
+carried_hit p a b (Asked q) = grind arith
+carried_hit p a b (Carried c q) = grind arith
+carried_hit p a b (Target c q) = grind arith
+carried_hit p a b Handshake = grind arith
+carried_hit p a b Manager = grind arith
 
 -- ---- the relation
-
-at_most : {a b c d : ℕ} → a ≡ b → b ≤ c → d ≡ c → a ≤ d
-at_most e f g = omega (arith, e, f, g)
-
-at_least : (c : ℕ) {a v n d : ℕ} → a ≡ v - c → v ≤ n → d ≡ n - c → a ≤ d
-at_least c e f g = omega (arith, e, f, g)
 
 abbrev pub Test : Type 0
 Test = Identity → Bool → Holder → Bool
@@ -177,64 +109,73 @@ Test = Identity → Bool → Holder → Bool
 abbrev pub on : Test → Reference → Bool
 on g x = g x.object x.strong x.holder
 
-module _ (O O' : Identity → Option ObjectRow) (N N' : ℕ → Identity → Option NameRow) (objects : List Object) (l m : List Reference) (r : Reference) (h : CountsAre O N objects l) where
-  -- one came in
-  pub counts_more : length l < 18446744073709551615
-      → ((g : Test) → count_by (on g) m ≡ count_by (on g) l + cond (on g r) 1 0)
-      → is_some (O r.object) ≡ true
-      → ((p : ℕ) → gives_name_to p r.holder ≡ true → owned_in objects p r.object ≡ false → is_some (N p r.object) ≡ true)
-      → ((p : ℕ) → is_asked_by p r.holder ≡ true → owned_in objects p r.object ≡ false)
-      → ((o : Identity) → O' o ≡ cond (same r.object o) (option_map (counting r) (O o)) (O o))
-      → ((p : ℕ) (o : Identity) → N' p o ≡ cond (gives_name_to p r.holder && same r.object o) (option_map (name_counting r) (N p o)) (N p o))
-      → ((o x : Identity) → same o x ≡ true → o ≡ x)
-      → CountsAre O' N' objects m
-  counts_more few comes here named others os ns eq = record {
-    totals = λ o s. ap (λ w. of_strength s (total_of w)) (os o) ∙ total_more (same r.object o) (O o) r s _ (there o) (h.totals o s) (short (is_to o s)) ∙ sym (comes (λ x t k. beq t s && same x o));
-    owed = λ o s. ap (λ w. of_strength s (owed_of w)) (os o) ∙ owed_more (same r.object o) (O o) r r.holder refl s _ (there o) (h.owed o s) (short (is_shaking o s)) ∙ sym (comes (λ x t k. beq t s && same x o && is_handshake k));
-    managed = λ o s. ap (λ w. of_strength s (managed_of w)) (os o) ∙ managed_more (same r.object o) (O o) r r.holder refl s _ (there o) (h.managed o s) (short (is_managing o s)) ∙ sym (comes (λ x t k. beq t s && same x o && is_managers k));
-    asked = λ p o s. ap (λ w. of_strength s (asked_of w)) (ns p o) ∙ asked_more p (same r.object o) (N p o) r r.holder refl s _ (asked_called p o) (h.asked p o s) (short (is_asking p o s)) ∙ sym (comes (λ x t k. beq t s && same x o && is_asked_by p k));
-    carried = λ p o s free. ap (λ w. of_strength s (carried_of w)) (ns p o) ∙ carried_more p (same r.object o) (N p o) r r.holder refl s _ (called p o free) (h.carried p o s free) (short (is_carrying p o s)) ∙ sym (comes (λ x t k. beq t s && same x o && is_carried_to p k));
-    unasked = λ p o s own. comes (λ x t k. beq t s && same x o && is_asked_by p k) ∙ none_more p o s own (beq r.strong s && same r.object o && is_asked_by p r.holder) refl;
-    carried_few = λ p o s. (let e = ap (λ w. of_strength s (carried_of w)) (ns p o) in let f = carried_more_few p (same r.object o) (N p o) r r.holder refl s (count_by (is_carrying p o s) l) (h.carried_few p o s) in let g = comes (λ x t k. beq t s && same x o && is_carried_to p k) in at_most e f g);
+-- what a change of the object's record leaves of all
+pub row_kept : {A : Type 0} (f : Option ObjectRow → A) (up : ObjectRow → ObjectRow) → ((v : ObjectRow) → f (Some (up v)) ≡ f (Some v)) → (o : Identity) (O O' : Identity → Option ObjectRow)
+    → ((y : Identity) → O' y ≡ cond (same o y) (option_map up (O y)) (O y)) → (y : Identity) → f (O' y) ≡ f (O y)
+row_kept f up alike o O O' rows y = ap f (rows y) ∙ at (same o y) (O y)
+  where
+    at : (b : Bool) (w : Option ObjectRow) → f (cond b (option_map up w) w) ≡ f w
+    at true None = refl
+    at true (Some v) = alike v
+    at false w = refl
+
+module _ (more : Bool) (t u : Records) (objects : List Object) (l m : List Reference) (r : Reference) (h : RecordsAre t objects l)
+    (homed : more ≡ true → (length l < 18446744073709551615) × IsHomed t objects r)
+    (comes : (g : Test) → count_by (on g) m ≡ after more (count_by (on g) l) (cond (on g r) 1 0))
+    (os : (o : Identity) → row_at u.objects o ≡ cond (same r.object o) (option_map (turned more r) (row_at t.objects o)) (row_at t.objects o))
+    (ns : (p : ℕ) (o : Identity) → name_at u.names p o ≡ cond (gives_name_to p r.holder && same r.object o) (option_map (name_turned more r) (name_at t.names p o)) (name_at t.names p o)) where
+  short : (f : Reference → Bool) → more ≡ true → count_by f l < 18446744073709551615
+  short f e = let a = count_by-le-length f l in let few = (homed e).0 in omega (arith, a, few)
+
+  there : (o : Identity) → more ≡ true → same r.object o ≡ true → is_some (row_at t.objects o) ≡ true
+  there o e k = subst (λ x. is_some (row_at t.objects x) ≡ true) (same_eq r.object o k) (homed e).1.here
+
+  -- its name, where another owns the object
+  called : (p : ℕ) (o : Identity) → owned_in objects p o ≡ false → more ≡ true → (gives_name_to p r.holder && same r.object o) ≡ true → is_some (name_at t.names p o) ≡ true
+  called p o free e k =
+      let is : r.object ≡ o = same_eq r.object o (grind (arith, k)) in
+      subst (λ x. is_some (name_at t.names p x) ≡ true) is ((homed e).1.named p (grind (arith, k)) (subst (λ x. owned_in objects p x ≡ false) (sym is) free))
+
+  none_more : (p : ℕ) (o : Identity) (s : Bool) → owned_in objects p o ≡ true → (k d : Bool) → more ≡ k → (beq r.strong s && same r.object o && is_asked_by p r.holder) ≡ d → after k (count_by (is_asking p o s) l) (cond d 1 0) ≡ 0
+  none_more p o s own false d e f = let z = h.counts.unasked p o s own in omega (arith, z)
+  none_more p o s own true false e f = let z = h.counts.unasked p o s own in omega (arith, z)
+  none_more p o s own true true e f =
+      let free = subst (λ x. owned_in objects p x ≡ false) (same_eq r.object o (grind (arith, f))) ((homed e).1.others p (grind (arith, f))) in
+      absurd (let k = sym own ∙ free in cc)
+
+  counts_turned : CountsAre (row_at u.objects) (name_at u.names) objects m
+  counts_turned = record {
+    totals = λ o s. ap (λ w. of_strength s (total_of w)) (os o) ∙ counted total_of (turned more r) more r.strong true (λ v. refl) refl s _ (same r.object o) (row_at t.objects o) (short (is_to o s)) (λ e k. there o e (grind (arith, k))) (h.counts.totals o s)
+        ∙ ap (λ k. after more (count_by (is_to o s) l) (cond k 1 0)) (and_true (beq r.strong s && same r.object o)) ∙ sym (comes (λ x t k. beq t s && same x o));
+    owed = λ o s. ap (λ w. of_strength s (owed_of w)) (os o) ∙ counted owed_of (turned more r) more r.strong (is_handshake r.holder) (λ v. refl) refl s _ (same r.object o) (row_at t.objects o) (short (is_shaking o s)) (λ e k. there o e (grind (arith, k))) (h.counts.owed o s)
+        ∙ sym (comes (λ x t k. beq t s && same x o && is_handshake k));
+    managed = λ o s. ap (λ w. of_strength s (managed_of w)) (os o) ∙ counted managed_of (turned more r) more r.strong (is_managers r.holder) (λ v. refl) refl s _ (same r.object o) (row_at t.objects o) (short (is_managing o s)) (λ e k. there o e (grind (arith, k))) (h.counts.managed o s)
+        ∙ sym (comes (λ x t k. beq t s && same x o && is_managers k));
+    asked = λ p o s. ap (λ w. of_strength s (asked_of w)) (ns p o) ∙ counted asked_of (name_turned more r) more r.strong (is_asked r.holder) (λ v. refl) refl s _ (gives_name_to p r.holder && same r.object o) (name_at t.names p o) (short (is_asking p o s)) (asked_called p o) (h.counts.asked p o s)
+        ∙ ap (λ k. after more (count_by (is_asking p o s) l) (cond k 1 0)) (asked_hit p (beq r.strong s) (same r.object o) r.holder) ∙ sym (comes (λ x t k. beq t s && same x o && is_asked_by p k));
+    carried = λ p o s free. ap (λ w. of_strength s (carried_of w)) (ns p o) ∙ counted carried_of (name_turned more r) more r.strong (is_carried r.holder) (λ v. refl) refl s _ (gives_name_to p r.holder && same r.object o) (name_at t.names p o) (short (is_carrying p o s)) (λ e k. called p o free e (grind (arith, k))) (h.counts.carried p o s free)
+        ∙ ap (λ k. after more (count_by (is_carrying p o s) l) (cond k 1 0)) (carried_hit p (beq r.strong s) (same r.object o) r.holder) ∙ sym (comes (λ x t k. beq t s && same x o && is_carried_to p k));
+    unasked = λ p o s own. comes (λ x t k. beq t s && same x o && is_asked_by p k) ∙ none_more p o s own more _ refl refl;
+    carried_few = λ p o s. subst (λ k. of_strength s (carried_of (name_at u.names p o)) ≤ k) (ap (λ k. after more (count_by (is_carrying p o s) l) (cond k 1 0)) (carried_hit p (beq r.strong s) (same r.object o) r.holder) ∙ sym (comes (λ x t k. beq t s && same x o && is_carried_to p k)))
+        (subst (λ w. of_strength s (carried_of w) ≤ after more (count_by (is_carrying p o s) l) (cond ((beq r.strong s && (gives_name_to p r.holder && same r.object o)) && is_carried r.holder) 1 0)) (sym (ns p o))
+        (counted_few carried_of (name_turned more r) more r.strong (is_carried r.holder) (λ v. refl) refl s _ (gives_name_to p r.holder && same r.object o) (name_at t.names p o) (h.counts.carried_few p o s)));
   }
     where
-      short : (f : Reference → Bool) → count_by f l < 18446744073709551615
-      short f = let a = count_by-le-length f l in omega (arith, a, few)
+      asked_called : (p : ℕ) (o : Identity) → more ≡ true → ((gives_name_to p r.holder && same r.object o) && is_asked r.holder) ≡ true → is_some (name_at t.names p o) ≡ true
+      asked_called p o e k =
+          let by : (same r.object o && is_asked_by p r.holder) ≡ true = sym (asked_hit p true (same r.object o) r.holder) ∙ k in
+          let is : r.object ≡ o = same_eq r.object o (grind (arith, by)) in
+          subst (λ x. is_some (name_at t.names p x) ≡ true) is ((homed e).1.named p (grind (arith, k)) ((homed e).1.others p (grind (arith, by))))
 
-      there : (o : Identity) → same r.object o ≡ true → is_some (O o) ≡ true
-      there o e = subst (λ x. is_some (O x) ≡ true) (eq r.object o e) here
-
-      asked_called : (p : ℕ) (o : Identity) → (is_asked_by p r.holder && same r.object o) ≡ true → is_some (N p o) ≡ true
-      asked_called p o e =
-          let is : r.object ≡ o = eq r.object o (grind (arith, e)) in
-          let by : is_asked_by p r.holder ≡ true = grind (arith, e) in
-          subst (λ x. is_some (N p x) ≡ true) is (named p (asked_gives p r.holder by) (others p by))
-
-      none_more : (p : ℕ) (o : Identity) (s : Bool) → owned_in objects p o ≡ true → (b : Bool) → (beq r.strong s && same r.object o && is_asked_by p r.holder) ≡ b → count_by (is_asking p o s) l + cond b 1 0 ≡ 0
-      none_more p o s own false e = let z = h.unasked p o s own in omega (arith, z)
-      none_more p o s own true e =
-          let is : r.object ≡ o = eq r.object o (grind (arith, e)) in
-          let free = subst (λ x. owned_in objects p x ≡ false) is (others p (grind (arith, e))) in
-          absurd (let k = sym own ∙ free in cc)
-
-      called : (p : ℕ) (o : Identity) → owned_in objects p o ≡ false → (gives_name_to p r.holder && same r.object o) ≡ true → is_some (N p o) ≡ true
-      called p o free e =
-          let is : r.object ≡ o = eq r.object o (grind (arith, e)) in
-          subst (λ x. is_some (N p x) ≡ true) is (named p (grind (arith, e)) (subst (λ x. owned_in objects p x ≡ false) (sym is) free))
-
-  -- one went
-  pub counts_less : ((g : Test) → count_by (on g) m ≡ count_by (on g) l - cond (on g r) 1 0)
-      → ((o : Identity) → O' o ≡ cond (same r.object o) (option_map (discounting r) (O o)) (O o))
-      → ((p : ℕ) (o : Identity) → N' p o ≡ cond (gives_name_to p r.holder && same r.object o) (option_map (name_discounting r) (N p o)) (N p o))
-      → CountsAre O' N' objects m
-  counts_less goes os ns = record {
-    totals = λ o s. ap (λ w. of_strength s (total_of w)) (os o) ∙ total_less (same r.object o) (O o) r s _ (h.totals o s) ∙ sym (goes (λ x t k. beq t s && same x o));
-    owed = λ o s. ap (λ w. of_strength s (owed_of w)) (os o) ∙ owed_less (same r.object o) (O o) r r.holder refl s _ (h.owed o s) ∙ sym (goes (λ x t k. beq t s && same x o && is_handshake k));
-    managed = λ o s. ap (λ w. of_strength s (managed_of w)) (os o) ∙ managed_less (same r.object o) (O o) r r.holder refl s _ (h.managed o s) ∙ sym (goes (λ x t k. beq t s && same x o && is_managers k));
-    asked = λ p o s. ap (λ w. of_strength s (asked_of w)) (ns p o) ∙ asked_less p (same r.object o) (N p o) r r.holder refl s _ (h.asked p o s) ∙ sym (goes (λ x t k. beq t s && same x o && is_asked_by p k));
-    carried = λ p o s free. ap (λ w. of_strength s (carried_of w)) (ns p o) ∙ carried_less p (same r.object o) (N p o) r r.holder refl s _ (h.carried p o s free) ∙ sym (goes (λ x t k. beq t s && same x o && is_carried_to p k));
-    unasked = λ p o s own. goes (λ x t k. beq t s && same x o && is_asked_by p k) ∙ (let z = h.unasked p o s own in omega (arith, z));
-    carried_few = λ p o s. (let e = ap (λ w. of_strength s (carried_of w)) (ns p o) ∙ carried_less p (same r.object o) (N p o) r r.holder refl s (of_strength s (carried_of (N p o))) refl in let g = goes (λ x t k. beq t s && same x o && is_carried_to p k) in at_least _ e (h.carried_few p o s) g);
+  -- a reference came or went, and nothing else
+  pub turned_stands : u.owned ≡ t.owned → BuffersAre u.held m → length m ≤ u.made → RecordsAre u objects m
+  turned_stands own held few = record {
+    objects_are = λ o. h.objects_are o ∙ sym (row_kept (option_map (λ (v : ObjectRow). v.object)) (turned more r) (λ v. refl) r.object (row_at t.objects) (row_at u.objects) os o);
+    owners = λ p o. h.owners p o ∙ sym (row_kept (is_owner p) (turned more r) (λ v. refl) r.object (row_at t.objects) (row_at u.objects) os o);
+    own = subst (λ x. OwnedAre x objects) (sym own) h.own;
+    counts = counts_turned;
+    held = held;
+    few = few;
   }
 
 -- ---- lists

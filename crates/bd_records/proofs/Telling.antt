@@ -1,20 +1,7 @@
 -- What an object's owner was told.
-use Rattle.std.proofs.Common.{◌≡◌, ℕ, ◌==◌, map, Bool, true, false, ◌&&◌, ◌||◌, cond, List, [], ◌∷◌, Option, Some, None, refl, ap, sym, ◌∙◌, subst, arith}
-use Rattle.std.specs.Prelude.{option_map}
-use Rattle.bd_ways.specs.Words.{Identity, Object, Reference, same, changed}
-use Rattle.bd_space.specs.References.{object_in, owned_in}
-use Rattle.bd_space.proofs.Identities.{same_eq}
-use Rattle.bd_records.specs.declared.{row.ObjectRow.{ObjectRow}, row.NameRow.{NameRow}}
-use Rattle.bd_records.specs.Count.{of_strength}
-use Rattle.bd_records.specs.Counting.{told, total_of, owed_of, managed_of}
-use Rattle.bd_records.specs.{Counted.{CountsAre}, Records.{is_owner}}
-use Rattle.bd_keys.specs.Keys.{same_word}
-use Rattle.bd_keys.proofs.Keys.{word_eq, word_self}
-use Rattle.bd_records.specs.ObjectKeys.{id_key, own_key}
-use Rattle.bd_records.proofs.Distinct.{changed_distinct}
-use Rattle.bd_records.proofs.Maps.{finds_hidden}
-use Rattle.bd_records.specs.{declared.owned.Owned.{Owned}, Owned.{OwnedAre, possession, id_at}}
-use Rattle.bd_records.proofs.Coming.{object_of, both_same}
+use Rattle.bd_records.proofs.Words.{Bool, CountsAre, Identity, List, NameRow, None, Object, ObjectRow, Option, Owned, OwnedAre, Reference, Some, [], ap, arith, changed, cond, false, id_at, id_key, is_owner, managed_of, map, object_in, of_strength, option_map, owed_of, own_key, owned_in, possession}
+use Rattle.bd_records.proofs.Words.{refl, same, same_eq, same_word, subst, sym, told, total_of, true, word_eq, word_self, ℕ, ◌&&◌, ◌==◌, ◌||◌, ◌∙◌, ◌∷◌, ◌≡◌}
+use Rattle.bd_records.proofs.{Coming.{both_same, object_of}, Distinct.{changed_distinct}, Maps.{finds_hidden}, Tallies.{row_kept}}
 
 module _ (weak strong : Bool) (o : Identity) where
   abbrev tell : Object → Object
@@ -82,37 +69,17 @@ module _ (weak strong : Bool) (o : Identity) where
         at true e (Some v) f = grind (arith, rows y, e, are y, f)
         at false e w f = grind (arith, rows y, e, are y)
 
-    kept : {A : Type 0} (f : Option ObjectRow → A) → ((w : Option ObjectRow) → f (option_map (told weak strong) w) ≡ f w) → (y : Identity) → f (O' y) ≡ f (O y)
-    kept f alike y = ap f (rows y) ∙ at (same o y)
-      where
-        at : (b : Bool) → f (cond b (option_map (told weak strong) (O y)) (O y)) ≡ f (O y)
-        at true = alike (O y)
-        at false = refl
-
-    owner_kept : (p : ℕ) (w : Option ObjectRow) → is_owner p (option_map (told weak strong) w) ≡ is_owner p w
-    owner_kept p None = refl
-    owner_kept p (Some v) = refl
-
-    total_kept : (w : Option ObjectRow) → total_of (option_map (told weak strong) w) ≡ total_of w
-    total_kept None = refl
-    total_kept (Some v) = refl
-
-    owed_kept : (w : Option ObjectRow) → owed_of (option_map (told weak strong) w) ≡ owed_of w
-    owed_kept None = refl
-    owed_kept (Some v) = refl
-
-    managed_kept : (w : Option ObjectRow) → managed_of (option_map (told weak strong) w) ≡ managed_of w
-    managed_kept None = refl
-    managed_kept (Some v) = refl
+    kept : {A : Type 0} (f : Option ObjectRow → A) → ((v : ObjectRow) → f (Some (told weak strong v)) ≡ f (Some v)) → (y : Identity) → f (O' y) ≡ f (O y)
+    kept f alike = row_kept f (told weak strong) alike o O O' rows
 
     pub told_owners : (p : ℕ) (y : Identity) → owned_in (retold objects) p y ≡ is_owner p (O' y)
-    told_owners p y = owned_told objects p y ∙ owners p y ∙ sym (kept (is_owner p) (owner_kept p) y)
+    told_owners p y = owned_told objects p y ∙ owners p y ∙ sym (kept (is_owner p) (λ v. refl) y)
 
     pub told_counts : CountsAre O' N (retold objects) l
     told_counts = record {
-      totals = λ y s. ap (of_strength s) (kept total_of total_kept y) ∙ h.totals y s;
-      owed = λ y s. ap (of_strength s) (kept owed_of owed_kept y) ∙ h.owed y s;
-      managed = λ y s. ap (of_strength s) (kept managed_of managed_kept y) ∙ h.managed y s;
+      totals = λ y s. ap (of_strength s) (kept total_of (λ v. refl) y) ∙ h.totals y s;
+      owed = λ y s. ap (of_strength s) (kept owed_of (λ v. refl) y) ∙ h.owed y s;
+      managed = λ y s. ap (of_strength s) (kept managed_of (λ v. refl) y) ∙ h.managed y s;
       asked = h.asked;
       unasked = λ p y s own. h.unasked p y s (sym (owned_told objects p y) ∙ own);
       carried = λ p y s free. h.carried p y s (sym (owned_told objects p y) ∙ free);

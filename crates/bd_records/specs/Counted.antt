@@ -1,12 +1,9 @@
 -- Each counter in the records of objects (O) and of names (N) is a count of these references: all to an object, its owner's handshakes,
 -- the context manager's, and by name those that a process asked for and those that its buffers carry.
-use Rattle.std.specs.Prelude.{ℕ, ◌≡◌, ◌≤◌, Bool, true, false, List, Option}
-use Rattle.std.specs.List.{count_by}
+use Rattle.std.specs.{List.{count_by}, Prelude.{Bool, List, Option, false, true, ℕ, ◌≡◌, ◌≤◌}}
 use Rattle.bd_ways.specs.Words.{Identity, Object, Reference}
-use Rattle.bd_space.specs.References.{owned_in, is_asking, is_shaking}
-use Rattle.bd_records.specs.declared.{row.ObjectRow.{ObjectRow}, row.NameRow.{NameRow}}
-use Rattle.bd_records.specs.Count.{of_strength}
-use Rattle.bd_records.specs.Counting.{total_of, owed_of, managed_of, asked_of, carried_of, is_to, is_managing, is_carrying}
+use Rattle.bd_space.specs.References.{is_asking, is_shaking, owned_in}
+use Rattle.bd_records.specs.{Count.{of_strength}, Counting.{asked_of, carried_of, is_carrying, is_managing, is_to, managed_of, owed_of, total_of}, declared.row.{NameRow.{NameRow}, ObjectRow.{ObjectRow}}}
 
 pub record CountsAre (O : Identity → Option ObjectRow) (N : ℕ → Identity → Option NameRow) (objects : List Object) (l : List Reference) : Type 0 where
   pub totals : (o : Identity) (s : Bool) → of_strength s (total_of (O o)) ≡ count_by (is_to o s) l

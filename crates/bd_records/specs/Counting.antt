@@ -1,59 +1,40 @@
 -- Which counters change with a reference, and how.
-use Rattle.std.specs.Prelude.{ℕ, Bool, true, false, ◌==◌, Option, Some, None, ◌&&◌}
-use Rattle.bd_ways.specs.Words.{beq, Identity, Reference, Holder, Asked, Carried, Handshake, Manager, same}
-use Rattle.bd_records.specs.declared.{count.Count.{Count}, row.ObjectRow.{ObjectRow}, row.NameRow.{NameRow}}
-use Rattle.bd_records.specs.Count.{no_count, one_more, less, only}
+use Rattle.std.specs.Prelude.{Bool, None, Option, Some, false, if◌then◌else◌, true, ℕ, ◌&&◌, ◌==◌}
+use Rattle.bd_space.specs.References.{is_handshake}
+use Rattle.bd_ways.specs.Words.{Asked, Carried, Handshake, Holder, Identity, Manager, Reference, beq, same}
+use Rattle.bd_records.specs.{Count.{less, no_count, turned_count}, declared.{count.Count.{Count}, row.{NameRow.{NameRow}, ObjectRow.{ObjectRow}}}}
 
-abbrev pub one_less : Bool → Count → Count
-one_less strong c = less c (only strong 1)
+abbrev pub is_asked : Holder → Bool
+is_asked (Asked q) = true
+is_asked _ = false
 
--- f is done to the counter of handshakes, if this holder is one
-abbrev pub owed_by : Holder → (Count → Count) → Count → Count
-owed_by Handshake f c = f c
-owed_by _ f c = c
+abbrev pub is_carried : Holder → Bool
+is_carried (Carried b q) = true
+is_carried _ = false
 
-abbrev pub managed_by : Holder → (Count → Count) → Count → Count
-managed_by Manager f c = f c
-managed_by _ f c = c
+abbrev pub is_managers : Holder → Bool
+is_managers Manager = true
+is_managers _ = false
 
-abbrev pub asked_by : Holder → (Count → Count) → Count → Count
-asked_by (Asked q) f c = f c
-asked_by _ f c = c
-
-abbrev pub carried_by : Holder → (Count → Count) → Count → Count
-carried_by (Carried b q) f c = f c
-carried_by _ f c = c
-
-abbrev pub counting : Reference → ObjectRow → ObjectRow
-counting r w = record {
-  object = w.object;
-  total = one_more r.strong w.total;
-  owed = owed_by r.holder (one_more r.strong) w.owed;
-  managed = managed_by r.holder (one_more r.strong) w.managed;
-}
-
-abbrev pub discounting : Reference → ObjectRow → ObjectRow
-discounting r w = record {
-  object = w.object;
-  total = one_less r.strong w.total;
-  owed = owed_by r.holder (one_less r.strong) w.owed;
-  managed = managed_by r.holder (one_less r.strong) w.managed;
-}
-
-abbrev pub name_counting : Reference → NameRow → NameRow
-name_counting r w = record { object = w.object; asked = asked_by r.holder (one_more r.strong) w.asked; carried = carried_by r.holder (one_more r.strong) w.carried }
-
-abbrev pub name_discounting : Reference → NameRow → NameRow
-name_discounting r w = record { object = w.object; asked = asked_by r.holder (one_less r.strong) w.asked; carried = carried_by r.holder (one_less r.strong) w.carried }
+-- one more, or one fewer, if this counter is meant
+abbrev pub turned_if : Bool → Bool → Bool → Count → Count
+turned_if meant more strong c = if meant then turned_count more strong c else c
 
 -- one comes, or goes
 abbrev pub turned : Bool → Reference → ObjectRow → ObjectRow
-turned true r w = counting r w
-turned false r w = discounting r w
+turned more r w = record {
+  object = w.object;
+  total = turned_count more r.strong w.total;
+  owed = turned_if (is_handshake r.holder) more r.strong w.owed;
+  managed = turned_if (is_managers r.holder) more r.strong w.managed;
+}
 
 abbrev pub name_turned : Bool → Reference → NameRow → NameRow
-name_turned true r w = name_counting r w
-name_turned false r w = name_discounting r w
+name_turned more r w = record {
+  object = w.object;
+  asked = turned_if (is_asked r.holder) more r.strong w.asked;
+  carried = turned_if (is_carried r.holder) more r.strong w.carried;
+}
 
 -- its owner was told whether the object is held, and whether strongly
 abbrev pub told : Bool → Bool → ObjectRow → ObjectRow
@@ -101,10 +82,6 @@ carried_of (Some w) = w.carried
 
 abbrev pub is_to : Identity → Bool → Reference → Bool
 is_to o strong r = beq r.strong strong && same r.object o
-
-abbrev pub is_managers : Holder → Bool
-is_managers Manager = true
-is_managers _ = false
 
 -- the context manager's
 abbrev pub is_managing : Identity → Bool → Reference → Bool

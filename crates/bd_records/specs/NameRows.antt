@@ -1,9 +1,8 @@
 -- What the rows of names say.
-use Rattle.std.specs.Prelude.{ℕ, Option, option_map}
+use Rattle.std.specs.Prelude.{Option, option_map, ℕ}
 use Rattle.bd_ways.specs.Words.{Identity}
-use Rattle.bd_numbered.specs.{declared.numbered.Numbered.{Numbered}, Numbered.{value_at}}
-use Rattle.bd_records.specs.declared.row.NameRow.{NameRow}
-use Rattle.bd_records.specs.Count.{no_count}
+use Rattle.bd_numbered.specs.{Numbered.{value_at}, declared.numbered.Numbered.{Numbered}}
+use Rattle.bd_records.specs.{Count.{no_count}, declared.row.NameRow.{NameRow}}
 
 abbrev pub object_of : NameRow → Identity
 object_of r = r.object

@@ -1,13 +1,8 @@
 -- What is known of names: by process and object, and by process and number.
-use Rattle.std.specs.Prelude.{ℕ, Option, None, min}
-use Rattle.std.specs.HashMap.{spare}
+use Rattle.std.specs.{HashMap.{spare}, Prelude.{None, Option, min, ℕ}}
 use Rattle.bd_ways.specs.Words.{Identity}
-use Rattle.bd_numbered.specs.Numbered.{value_at, number_room}
-use Rattle.bd_records.specs.declared.row.NameRow.{NameRow}
-use Rattle.bd_records.specs.declared.names.Names.{Names}
-use Rattle.bd_records.specs.Slots.{on_slot}
-use Rattle.bd_records.specs.NumberKeys.{number_at}
-use Rattle.bd_records.specs.NameRows.{object_in}
+use Rattle.bd_numbered.specs.Numbered.{number_room, value_at}
+use Rattle.bd_records.specs.{NameRows.{object_in}, NumberKeys.{number_at}, Slots.{on_slot}, declared.{names.Names.{Names}, row.NameRow.{NameRow}}}
 
 -- by object: the number; by number: the object
 abbrev pub number_of : Names → ℕ → Identity → Option ℕ

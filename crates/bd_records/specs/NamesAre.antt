@@ -1,9 +1,8 @@
 -- When the records are those of a space's names.
-use Rattle.std.specs.Prelude.{ℕ, ◌≡◌, false, List}
+use Rattle.std.specs.Prelude.{List, false, ℕ, ◌≡◌}
 use Rattle.bd_ways.specs.Words.{Identity, Name}
-use Rattle.bd_space.specs.Names.{named_in, number_in, has_number_past_limit}
-use Rattle.bd_records.specs.Sound.{Sound}
-use Rattle.bd_records.specs.{declared.names.Names.{Names}, Names.{named_by, number_of}}
+use Rattle.bd_space.specs.Names.{has_number_past_limit, named_in, number_in}
+use Rattle.bd_records.specs.{Names.{named_by, number_of}, Sound.{Sound}, declared.names.Names.{Names}}
 
 pub record NamesAre (t : Names) (l : List Name) : Type 0 where
   pub sound : Sound l

@@ -1,8 +1,7 @@
 -- Objects that are new.
-use Rattle.std.specs.Prelude.{◌≡◌, true, List, [], ◌∷◌, ◌++◌, None}
-use Rattle.bd_ways.specs.Words.{Identity, Object}
+use Rattle.std.specs.Prelude.{List, None, [], true, ◌++◌, ◌∷◌, ◌≡◌}
+use Rattle.bd_ways.specs.{Local.{is_among}, Words.{Identity, Object}}
 use Rattle.bd_space.specs.References.{object_in, own_in}
-use Rattle.bd_ways.specs.Local.{is_among}
 
 -- No object of the list has the identity of this one, and its owner has none there with its pointer.
 abbrev pub IsNewIn : List Object → Object → Type 0

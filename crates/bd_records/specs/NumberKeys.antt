@@ -1,7 +1,6 @@
 -- The keys of names by object, and what the map says of one.
-use Rattle.std.specs.Prelude.{ℕ, ◌==◌, ◌&&◌, Bool, Option}
+use Rattle.std.specs.{HashMap.{HashMap, get_by}, Prelude.{Bool, Option, ℕ, ◌&&◌, ◌==◌}}
 use Rattle.bd_ways.specs.Words.{Identity, same}
-use Rattle.std.specs.HashMap.{HashMap, get_by}
 use Rattle.bd_records.specs.declared.number_key.ObjectKey.{ObjectKey}
 
 abbrev pub is_object_key : ℕ → Identity → ObjectKey → Bool

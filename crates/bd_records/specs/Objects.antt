@@ -1,11 +1,8 @@
 -- The records of objects, by identity.
-use Rattle.std.specs.Prelude.{ℕ, Option, None, min}
-use Rattle.std.specs.HashMap.{get_by, spare}
+use Rattle.std.specs.{HashMap.{get_by, spare}, Prelude.{None, Option, min, ℕ}}
 use Rattle.slab.specs.Slab.{get}
 use Rattle.bd_ways.specs.Words.{Identity, same}
-use Rattle.bd_records.specs.declared.row.ObjectRow.{ObjectRow}
-use Rattle.bd_records.specs.declared.objects.Objects.{Objects}
-use Rattle.bd_records.specs.Slots.{on_slot, row_room}
+use Rattle.bd_records.specs.{Slots.{on_slot, row_room}, declared.{objects.Objects.{Objects}, row.ObjectRow.{ObjectRow}}}
 
 abbrev pub slot_at : Objects → Identity → Option ℕ
 slot_at t o = get_by (same o) t.slots

@@ -1,15 +1,10 @@
 -- Objects by their owners: by pointers, of which no two are alike, and one after the other.
-use Rattle.std.specs.Prelude.{ℕ, ◌≡◌, ◌≤◌, ◌==◌, Bool, false, min, List, map, Option, Some, option_map}
-use Rattle.std.specs.HashMap.{get, spare}
+use Rattle.std.specs.{HashMap.{get, spare}, Prelude.{Bool, List, Option, Some, false, map, min, option_map, ℕ, ◌==◌, ◌≡◌, ◌≤◌}}
 use Rattle.bd_ways.specs.Words.{Identity, Object, same}
-use Rattle.bd_keys.specs.declared.key.WordKey.{WordKey}
-use Rattle.bd_keys.specs.Keys.{same_word}
-use Rattle.bd_keys.specs.Look.{look, word_room}
-use Rattle.bd_chains.specs.{declared.links.Held.{Held}, Rows.{Row, values, row_at}}
+use Rattle.bd_keys.specs.{Keys.{same_word}, Look.{look, word_room}, declared.key.WordKey.{WordKey}}
+use Rattle.bd_chains.specs.{Rows.{Row, row_at, values}, declared.links.Held.{Held}}
+use Rattle.bd_records.specs.{Maps.{AreDistinct, Finds}, ObjectKeys.{id_key, own_key}, declared.owned.{Owned.{Owned}, Possession.{Possession}, Spot.{Spot}}}
 use Rattle.bd_chains.specs.Lists as lists
-use Rattle.bd_records.specs.ObjectKeys.{id_key, own_key}
-use Rattle.bd_records.specs.Maps.{AreDistinct, Finds}
-use Rattle.bd_records.specs.declared.{owned.Owned.{Owned}, owned.Spot.{Spot}, owned.Possession.{Possession}}
 
 abbrev pub possession : Object → Possession
 possession x = record { owner = x.owner; id = x.id }

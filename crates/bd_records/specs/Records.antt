@@ -1,9 +1,8 @@
 -- When the records are those of a space's objects and references.
-use Rattle.std.specs.Prelude.{ℕ, ◌≡◌, ◌≤◌, ◌-◌, ◌==◌, Bool, true, false, List, length, Option, None, Some, is_some, option_map, min}
+use Rattle.std.specs.Prelude.{Bool, List, None, Option, Some, false, is_some, length, min, option_map, true, ℕ, ◌-◌, ◌==◌, ◌≡◌, ◌≤◌}
 use Rattle.bd_ways.specs.Words.{Identity, Object, Reference}
-use Rattle.bd_space.specs.References.{object_in, owned_in, gives_name_to, is_asked_by}
-use Rattle.bd_records.specs.declared.{row.ObjectRow.{ObjectRow}, records.Records.{Records}}
-use Rattle.bd_records.specs.{Objects.{row_at, object_room}, Owned.{OwnedAre, own_room}, Names.{name_at}, Counted.{CountsAre}, Buffers.{BuffersAre, buffer_room}}
+use Rattle.bd_space.specs.References.{gives_name_to, is_asked_by, object_in, owned_in}
+use Rattle.bd_records.specs.{Buffers.{BuffersAre, buffer_room}, Counted.{CountsAre}, Names.{name_at}, Objects.{object_room, row_at}, Owned.{OwnedAre, own_room}, declared.{records.Records.{Records}, row.ObjectRow.{ObjectRow}}}
 
 -- there is a record, and the process owns its object
 abbrev pub is_owner : ℕ → Option ObjectRow → Bool

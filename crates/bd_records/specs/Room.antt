@@ -1,7 +1,6 @@
 -- What a change takes of the room for more objects, references and names.
-use Rattle.std.specs.Prelude.{ℕ, ◌≡◌, ◌≤◌, ◌+◌, ◌==◌, false}
-use Rattle.bd_records.specs.declared.records.Records.{Records}
-use Rattle.bd_records.specs.{Records.{new_room, reference_room}, Since.{given_room}}
+use Rattle.std.specs.Prelude.{false, ℕ, ◌+◌, ◌==◌, ◌≡◌, ◌≤◌}
+use Rattle.bd_records.specs.{Records.{new_room, reference_room}, Since.{given_room}, declared.records.Records.{Records}}
 
 -- at most so much of each, of names that of each process
 pub record Uses (old new : Records) (objects references names : ℕ) : Type 0 where

@@ -1,8 +1,7 @@
 -- The names of a space, and those when they were last settled: what was given since can be taken back.
-use Rattle.std.specs.Prelude.{ℕ, ◌≡◌, ◌-◌, List, [], ◌∷◌, ◌++◌, Option, min, vec_len, vec_capacity}
+use Rattle.std.specs.Prelude.{List, Option, [], min, vec_capacity, vec_len, ℕ, ◌++◌, ◌-◌, ◌∷◌, ◌≡◌}
 use Rattle.bd_ways.specs.Words.{Name}
-use Rattle.bd_records.specs.declared.{records.Records.{Records}, names.Names.{Names}, row.NameRow.{NameRow}}
-use Rattle.bd_records.specs.{Count.{no_count}, Counting.{asked_of, carried_of}, Names.{name_at, name_room}, NamesAre.{NamesAre}}
+use Rattle.bd_records.specs.{Count.{no_count}, Counting.{asked_of, carried_of}, Names.{name_at, name_room}, NamesAre.{NamesAre}, declared.{names.Names.{Names}, records.Records.{Records}, row.NameRow.{NameRow}}}
 
 -- nothing gives the name yet
 abbrev pub IsBlank : Option NameRow → Type 0

@@ -1,12 +1,11 @@
 //! Buffers' references.
 
-ghost use Rattle.std.specs.Prelude.{ℕ, ◌≡◌, ◌==◌, ◌≤◌, ◌+◌, ◌++◌, ◌∷◌, [], false, Some, None, List, option_map, find, filter, map, length, OnOk, OnErr};
-ghost use Rattle.std.specs.List.{list_any};
+ghost use Rattle.std.specs.{List.{list_any}, Prelude.{List, None, OnErr, OnOk, Some, [], false, filter, find, length, map, option_map, ℕ, ◌++◌, ◌+◌, ◌==◌, ◌∷◌, ◌≡◌, ◌≤◌}};
 ghost use Rattle.bd_keys.specs.Tables.{Makes, Tells};
 ghost use Rattle.bd_space.specs.Words.{without_first};
+ghost use Rattle.bd_records.specs.Lying.{window_of_holder};
 ghost use Rattle.bd_space.specs.References as refer;
 ghost use Rattle.bd_space.specs.declared.space.Reference as declared;
-ghost use Rattle.bd_records.specs.Lying.{window_of_holder};
 
 use crate::lying::Lying;
 use bd_chains::{Items, Lists, Numbering, Numbers};

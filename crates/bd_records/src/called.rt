@@ -1,17 +1,14 @@
 //! Names that come and go, in the records that count what carries them.
 
-ghost use Rattle.std.specs.List.{list_any};
+ghost use Rattle.std.specs.{List.{list_any}, Prelude.{List, None, OnErr, OnOk, Some, false, filter, is_some, not, true, ℕ, ◌==◌, ◌≡◌, ◌≤◌}};
 ghost use Rattle.bd_numbered.specs.Numbered.{slot_at};
-ghost use Rattle.std.specs.Prelude.{ℕ, ◌≡◌, ◌==◌, ◌≤◌, None, Some, true, false, not, filter, is_some, List, OnOk, OnErr};
-ghost use Rattle.bd_keys.specs.Tables as tables;
 ghost use Rattle.bd_space.specs.declared.space.{Object.{Object}, Reference.{Reference}};
+ghost use Rattle.bd_records.specs.{Numbers.{IsFull, with_number}, Sound.{has_object}};
+ghost use Rattle.bd_keys.specs.Tables as tables;
 ghost use Rattle.bd_space.specs.declared.space.Name as declared;
 ghost use Rattle.bd_space.specs.References as refer;
 ghost use Rattle.bd_space.specs.Names as names_of;
-ghost use Rattle.bd_records.specs.Numbers.{with_number, IsFull};
-ghost use Rattle.bd_records.specs.Sound.{has_object};
 
-use crate::listed::{give_name, remove_name};
 use crate::numbers::NumbersFull;
 use crate::records::Records;
 use crate::row::NameRow;
@@ -19,7 +16,7 @@ use bd_space::{Identity, Name};
 use std::alloc::AllocError;
 
 impl Records {
-    ghost use Rattle.bd_records.specs.{Records.{RecordsAre, Makes, reference_room}, NamesAre.{NamesAre}, Names.{name_at}, Since.{Since, Settled, given_room}, Room.{Uses, UsesNothingBut}};
+    ghost use Rattle.bd_records.specs.{Names.{name_at}, NamesAre.{NamesAre}, Records.{Makes, RecordsAre, reference_room}, Room.{Uses, UsesNothingBut}, Since.{Settled, Since, given_room}};
 
     /// Makes room for more names of the process, and changes nothing besides.
     pub fn reserve_names(&mut self, p: u64, more: usize) -> Result<(), AllocError>
@@ -50,7 +47,7 @@ impl Records {
         if let Some(_) = self.names.number_of(p, o) {
             return Ok(());
         }
-        match give_name(&mut self.names, from_zero, p, o) {
+        match self.names.give(from_zero, p, o) {
             Ok(n) => {
                 self.given.push_reserved(Name {
                     process: p,
@@ -79,7 +76,7 @@ impl Records {
         ensures uses { Uses self.old self.new 0 0 0 }
     {
         while let Some(m) = self.given.pop() {
-            remove_name(&mut self.names, m.process, m.object);
+            self.names.remove(m.process, m.object);
         }
     }
 

@@ -1,9 +1,8 @@
 //! Objects that come and go.
 
-ghost use Rattle.std.specs.Prelude.{◌≡◌, ◌==◌, ◌≤◌, ◌++◌, ◌∷◌, [], false, not, filter, map, length, List, OnOk, OnErr};
-ghost use Rattle.bd_space.specs.Words.{same, changed};
+ghost use Rattle.std.specs.Prelude.{List, OnErr, OnOk, [], false, filter, length, map, not, ◌++◌, ◌==◌, ◌∷◌, ◌≡◌, ◌≤◌};
+ghost use Rattle.bd_space.specs.{Words.{changed, same}, declared.space.{Object.{Object}, Reference.{Reference}}};
 ghost use Rattle.bd_space.specs.References as refer;
-ghost use Rattle.bd_space.specs.declared.space.{Object.{Object}, Reference.{Reference}};
 
 use crate::count::Count;
 use crate::records::Records;
@@ -13,8 +12,7 @@ use bd_space::Identity;
 use std::alloc::AllocError;
 
 impl Records {
-    ghost use Rattle.bd_records.specs.New.{IsNewIn, AreNewIn};
-    ghost use Rattle.bd_records.specs.{Records.{RecordsAre, Makes, new_room, reference_room}, Room.{Uses}, Since.{KeepsSettled}};
+    ghost use Rattle.bd_records.specs.{New.{AreNewIn, IsNewIn}, Records.{Makes, RecordsAre, new_room, reference_room}, Room.{Uses}, Since.{KeepsSettled}};
 
     /// Makes room for so many objects more. Changes nothing else.
     pub fn reserve_objects(&mut self, more: usize) -> Result<(), AllocError>

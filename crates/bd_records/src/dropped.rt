@@ -1,13 +1,11 @@
 //! The objects of the references that go with a process.
 
-ghost use Rattle.std.specs.Prelude.{◌≡◌, ◌&&◌, ◌||◌, ◌++◌, true, false, map, filter, List, OnOk, OnErr};
-ghost use Rattle.std.specs.List.{list_any};
-ghost use Rattle.bd_space.specs.Words.{same as same_object};
-ghost use Rattle.bd_space.specs.References as refer;
-ghost use Rattle.bd_space.specs.declared.space.{Object.{Object}, Reference.{Reference}};
-ghost use Rattle.bd_space.specs.declared.step.Identity as identity;
+ghost use Rattle.std.specs.{List.{list_any}, Prelude.{List, OnErr, OnOk, false, filter, map, true, ◌&&◌, ◌++◌, ◌||◌, ◌≡◌}};
+ghost use Rattle.bd_space.specs.{Words.{same as same_object}, declared.space.{Object.{Object}, Reference.{Reference}}};
 ghost use Rattle.bd_ways.specs.Local.{is_among};
-ghost use Rattle.bd_records.specs.{Names.{named_by}, Ending.{is_named_at}};
+ghost use Rattle.bd_records.specs.{Ending.{is_named_at}, Names.{named_by}};
+ghost use Rattle.bd_space.specs.References as refer;
+ghost use Rattle.bd_space.specs.declared.step.Identity as identity;
 ghost use Rattle.bd_records.specs.Asks as asking;
 
 use crate::keys::next_above;
@@ -72,8 +70,7 @@ fn push_asked(names: &Names, p: u64, touched: &mut Vec<Identity>) -> Result<(), 
 }
 
 impl Records {
-    ghost use Rattle.bd_records.specs.New.{HasAll};
-    ghost use Rattle.bd_records.specs.Records.{RecordsAre};
+    ghost use Rattle.bd_records.specs.{New.{HasAll}, Records.{RecordsAre}};
 
     /// Puts the objects of the references that the process asked for, or that lie in its window, to what is there, in
     /// some order. Fails for want of memory alone.

@@ -1,13 +1,11 @@
 //! What goes when a process ends.
 
-ghost use Rattle.std.specs.Prelude.{ℕ, ◌≡◌, ◌≤◌, ◌&&◌, ◌||◌, ◌++◌, true, false, Some, None, Option, option_map, not, map, find, filter, List, OnOk, OnErr};
-ghost use Rattle.std.specs.List.{list_any};
-ghost use Rattle.bd_space.specs.Words.{without_first};
+ghost use Rattle.std.specs.{List.{list_any}, Prelude.{List, None, OnErr, OnOk, Option, Some, false, filter, find, map, not, option_map, true, ℕ, ◌&&◌, ◌++◌, ◌||◌, ◌≡◌, ◌≤◌}};
+ghost use Rattle.bd_space.specs.{Words.{without_first}, declared.space.{Object.{Object}, Reference.{Reference}}};
+ghost use Rattle.bd_records.specs.{Counted.{CountsAre}, Ending.{LiesIn, is_named_at, without_own}, Objects.{object_room, row_at}, Records.{is_owner}};
 ghost use Rattle.bd_space.specs.References as refer;
-ghost use Rattle.bd_space.specs.declared.space.{Object.{Object}, Reference.{Reference}};
 ghost use Rattle.bd_space.specs.declared.step.Identity as identity;
 ghost use Rattle.bd_records.specs.declared.row.NameRow as rows;
-ghost use Rattle.bd_records.specs.{Objects.{row_at, object_room}, Counted.{CountsAre}, Records.{is_owner}, Ending.{without_own, is_named_at, LiesIn}};
 
 use crate::keys::next_above;
 use crate::listing::OwnedObjects;
@@ -30,7 +28,7 @@ fn remove_of_each(objects: &mut Objects, owned: OwnedObjects<'_>)
 }
 
 impl Records {
-    ghost use Rattle.bd_records.specs.{Records.{RecordsAre, Makes, Tells}, NamesAre.{KeepsNames}, Names.{named_by}, Room.{Uses}, Since.{KeepsSettled}, Buffers.{list_of, window_list}};
+    ghost use Rattle.bd_records.specs.{Buffers.{list_of, window_list}, Names.{named_by}, NamesAre.{KeepsNames}, Records.{Makes, RecordsAre, Tells}, Room.{Uses}, Since.{KeepsSettled}};
 
     /// The references go that the process has as owner of its objects: what it is to acknowledge, and the context manager's.
     pub fn remove_of_owned(&mut self, p: u64)

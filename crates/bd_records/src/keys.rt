@@ -1,11 +1,9 @@
 //! The numbers of names by object: room for more, and those of a process that ends.
 
-ghost use Rattle.std.specs.Prelude.{ℕ, ◌≡◌, ◌==◌, ◌≤◌, ◌<◌, ◌+◌, ◌^◌, false, None, Some, is_some, IfNone, IfSome, OnOk, OnErr};
-ghost use Rattle.std.specs.HashMap.{spare};
-ghost use Rattle.bd_space.specs.declared.step.Identity as declared;
-ghost use Rattle.bd_records.specs.NumberKeys.{number_at};
+ghost use Rattle.std.specs.{HashMap.{spare}, Prelude.{IfNone, IfSome, None, OnErr, OnOk, Some, false, is_some, ℕ, ◌+◌, ◌<◌, ◌==◌, ◌^◌, ◌≡◌, ◌≤◌}};
+ghost use Rattle.bd_records.specs.{NameRows.{object_in}, NumberKeys.{number_at}};
 ghost use Rattle.bd_numbered.specs.Numbered.{value_at};
-ghost use Rattle.bd_records.specs.NameRows.{object_in};
+ghost use Rattle.bd_space.specs.declared.step.Identity as declared;
 
 use crate::number_key::{ObjectKey, remove_number};
 use crate::row::NameRow;

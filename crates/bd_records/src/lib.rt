@@ -26,7 +26,7 @@ mod turning;
 
 pub use carried::CarriedObjects;
 pub use count::Count;
-pub use listed::{give_name, name_number, named_object, next_number, remove_name};
+pub use listed::{name_number, named_object, next_number};
 pub use listing::OwnedObjects;
 pub use lying::Lying;
 pub use names::Names;

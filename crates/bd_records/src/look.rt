@@ -1,9 +1,8 @@
 //! Looking at objects.
 
-ghost use Rattle.std.specs.Prelude.{◌≡◌, ◌==◌, ◌&&◌, option_map, find, map, filter, List};
-ghost use Rattle.bd_space.specs.Words.{same};
+ghost use Rattle.std.specs.Prelude.{List, filter, find, map, option_map, ◌&&◌, ◌==◌, ◌≡◌};
+ghost use Rattle.bd_space.specs.{Words.{same}, declared.space.{Object.{Object}, Reference.{Reference}}};
 ghost use Rattle.bd_space.specs.References as refer;
-ghost use Rattle.bd_space.specs.declared.space.{Object.{Object}, Reference.{Reference}};
 ghost use Rattle.bd_records.specs.ObjectKeys as keys;
 
 use crate::listing::OwnedObjects;

@@ -1,12 +1,11 @@
 //! Names' records, in each process's vector by number.
 
-ghost use Rattle.std.specs.Prelude.{ℕ, ◌≡◌, ◌==◌, ◌≤◌, ◌<◌, ◌+◌, ◌&&◌, true, false, Some, None, is_some, option_map, ◌^◌, IfOk, IfSome, IfNone, OnOk, OnErr, if◌then◌else◌};
+ghost use Rattle.std.specs.Prelude.{IfNone, IfOk, IfSome, None, OnErr, OnOk, Some, false, if◌then◌else◌, is_some, option_map, true, ℕ, ◌&&◌, ◌+◌, ◌<◌, ◌==◌, ◌^◌, ◌≡◌, ◌≤◌};
 ghost use Rattle.bd_space.specs.Words.{same};
-ghost use Rattle.bd_space.specs.declared.step.Identity as declared;
-ghost use Rattle.bd_records.specs.NumberKeys.{number_at};
-ghost use Rattle.bd_records.specs.NameRows.{object_in, new_row};
-ghost use Rattle.bd_records.specs.Counting as spec;
+ghost use Rattle.bd_records.specs.{NameRows.{new_row, object_in}, NumberKeys.{number_at}};
 ghost use Rattle.bd_keys.specs.Numbers.{pair};
+ghost use Rattle.bd_space.specs.declared.step.Identity as declared;
+ghost use Rattle.bd_records.specs.Counting as spec;
 
 use crate::count::Count;
 use crate::counting::{Turned, Unasked};
@@ -56,7 +55,7 @@ pub struct Names {
 impl Names {
     ghost use Rattle.bd_numbered.specs.Numbered.{IsFreeAt, slot_at, value_at};
     ghost use Rattle.bd_chains.specs.Chain.{is_at};
-    ghost use Rattle.bd_records.specs.Names.{number_of, named_by, name_at, name_room};
+    ghost use Rattle.bd_records.specs.Names.{name_at, name_room, named_by, number_of};
 
     /// No names. Takes no memory.
     pub fn new(alloc: Global) -> Names

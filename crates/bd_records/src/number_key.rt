@@ -1,13 +1,12 @@
 //! The numbers of names, by process and object.
 
-ghost use Rattle.std.specs.Prelude.{ℕ, ◌≡◌, ◌==◌, ◌≤◌, ◌<◌, ◌+◌, ◌&&◌, Some, None, if◌then◌else◌};
-ghost use Rattle.std.specs.Cmp.Rules.{hashing};
-ghost use Rattle.std.specs.Hash as fed;
-ghost use Rattle.std.{specs.HashMap.{spare}, proofs.Common.{rules}};
+ghost use Rattle.std.specs.{Cmp.Rules.{hashing}, HashMap.{spare}, Prelude.{None, Some, if◌then◌else◌, ℕ, ◌&&◌, ◌+◌, ◌<◌, ◌==◌, ◌≡◌, ◌≤◌}};
+ghost use Rattle.std.proofs.Common.{rules};
 ghost use Rattle.bd_keys.specs.Numbers.{mixed};
-ghost use Rattle.bd_space.specs.declared.step.Identity as declared;
 ghost use Rattle.bd_space.specs.Words.{same};
 ghost use Rattle.bd_records.specs.NumberKeys.{number_at};
+ghost use Rattle.std.specs.Hash as fed;
+ghost use Rattle.bd_space.specs.declared.step.Identity as declared;
 
 use bd_keys::{insert_reserved, mixed};
 use bd_space::Identity;

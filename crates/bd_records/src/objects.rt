@@ -1,12 +1,11 @@
 //! Objects' records, in slots.
 
-ghost use Rattle.std.specs.Prelude.{ℕ, ◌≡◌, ◌==◌, ◌≤◌, ◌<◌, ◌+◌, Some, None, option_map, IfSome, if◌then◌else◌, OnOk, OnErr};
-ghost use Rattle.std.specs.HashMap.{get_by};
+ghost use Rattle.std.specs.{HashMap.{get_by}, Prelude.{IfSome, None, OnErr, OnOk, Some, if◌then◌else◌, option_map, ℕ, ◌+◌, ◌<◌, ◌==◌, ◌≡◌, ◌≤◌}};
 ghost use Rattle.bd_space.specs.Words.{same};
-ghost use Rattle.bd_space.specs.declared.step.Identity as declared;
 ghost use Rattle.bd_records.specs.Slots.{id_in};
-ghost use Rattle.bd_records.specs.Counting as spec;
 ghost use Rattle.bd_keys.specs.Numbers.{pair};
+ghost use Rattle.bd_space.specs.declared.step.Identity as declared;
+ghost use Rattle.bd_records.specs.Counting as spec;
 
 use crate::count::Count;
 use crate::row::ObjectRow;
@@ -71,7 +70,7 @@ pub struct Objects {
 }
 
 impl Objects {
-    ghost use Rattle.bd_records.specs.Objects.{slot_at, row_at, object_room};
+    ghost use Rattle.bd_records.specs.Objects.{object_room, row_at, slot_at};
 
     /// No objects. Takes no memory.
     pub fn new(alloc: Global) -> Objects

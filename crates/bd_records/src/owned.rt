@@ -1,12 +1,11 @@
 //! Objects by their owners.
 
-ghost use Rattle.std.specs.Prelude.{◌≡◌, ◌==◌, ◌≤◌, ◌+◌, ◌++◌, ◌∷◌, [], not, filter, map, option_map, Some, None, List, if◌then◌else◌, OnOk, OnErr};
-ghost use Rattle.bd_keys.specs.{declared.key.WordKey.{WordKey}, Keys.{same_word}, Look.{look, word_room}};
-ghost use Rattle.bd_keys.specs.Tables.{Makes, Tells};
-ghost use Rattle.bd_space.specs.{Words.{same}, References.{object_in, own_in}};
+ghost use Rattle.std.specs.Prelude.{List, None, OnErr, OnOk, Some, [], filter, if◌then◌else◌, map, not, option_map, ◌++◌, ◌+◌, ◌==◌, ◌∷◌, ◌≡◌, ◌≤◌};
+ghost use Rattle.bd_keys.specs.{Keys.{same_word}, Look.{look, word_room}, Tables.{Makes, Tells}, declared.key.WordKey.{WordKey}};
+ghost use Rattle.bd_space.specs.{References.{object_in, own_in}, Words.{same}};
+ghost use Rattle.bd_records.specs.New.{IsNewIn};
 ghost use Rattle.bd_space.specs.declared.space.Object as declared;
 ghost use Rattle.bd_records.specs.ObjectKeys as keys;
-ghost use Rattle.bd_records.specs.New.{IsNewIn};
 
 use bd_chains::{Items, Lists, Numbering, Numbers};
 use bd_keys::{WordKey, WordMap};
@@ -86,7 +85,7 @@ fn put_spot(ptrs: &mut WordMap<Spot>, k: WordKey, spot: Spot, among: bool)
 }
 
 impl Owned {
-    ghost use Rattle.bd_records.specs.Owned.{OwnedAre, possession, own_room};
+    ghost use Rattle.bd_records.specs.Owned.{OwnedAre, own_room, possession};
 
     /// Nobody owns an object.
     pub fn new(alloc: Global) -> Owned

@@ -1,11 +1,9 @@
 //! Objects, names and references together.
 
-ghost use Rattle.std.specs.Prelude.{ℕ, ◌≡◌, ◌==◌, ◌≤◌, ◌+◌, ◌&&◌, ◌++◌, ◌∷◌, [], true, false, not, filter, map, option_map, List, IfSome, OnOk, OnErr};
-ghost use Rattle.std.specs.List.{list_any};
-ghost use Rattle.bd_space.specs.{Words.{same, without_first}};
+ghost use Rattle.std.specs.{List.{list_any}, Prelude.{IfSome, List, OnErr, OnOk, [], false, filter, map, not, option_map, true, ℕ, ◌&&◌, ◌++◌, ◌+◌, ◌==◌, ◌∷◌, ◌≡◌, ◌≤◌}};
+ghost use Rattle.bd_space.specs.{Words.{same, without_first}, declared.space.Reference.{Reference}};
 ghost use Rattle.bd_space.specs.References as refer;
 ghost use Rattle.bd_space.specs.declared.space.Object as spaced;
-ghost use Rattle.bd_space.specs.declared.space.Reference.{Reference};
 
 use crate::buffers::Buffers;
 use crate::lying::Lying;
@@ -64,8 +62,7 @@ pub(crate) fn push_objects(
 }
 
 impl Records {
-    ghost use Rattle.bd_records.specs.Records.{RecordsAre, IsHomed, Makes, Tells, TellsOfOthers, reference_room};
-    ghost use Rattle.bd_records.specs.{Buffers.{list_of}, NamesAre.{KeepsNames}, Names.{named_by}, Since.{Settled, KeepsSettled}, Room.{Uses}};
+    ghost use Rattle.bd_records.specs.{Buffers.{list_of}, Names.{named_by}, NamesAre.{KeepsNames}, Records.{IsHomed, Makes, RecordsAre, Tells, TellsOfOthers, reference_room}, Room.{Uses}, Since.{KeepsSettled, Settled}};
 
     /// No objects, no references.
     pub fn new(alloc: Global) -> Records

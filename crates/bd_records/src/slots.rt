@@ -1,11 +1,10 @@
 //! Objects' records by slot, and their slots by identity.
 
-ghost use Rattle.std.specs.Prelude.{ℕ, ◌≡◌, ◌==◌, ◌≤◌, ◌<◌, ◌+◌, ◌-◌, Some, None, option_map, if◌then◌else◌, OnOk, OnErr};
-ghost use Rattle.std.specs.HashMap.{get_by, spare};
+ghost use Rattle.std.specs.{HashMap.{get_by, spare}, Prelude.{None, OnErr, OnOk, Some, if◌then◌else◌, option_map, ℕ, ◌+◌, ◌-◌, ◌<◌, ◌==◌, ◌≡◌, ◌≤◌}};
 ghost use Rattle.slab.specs.Slab.{get, slab_len};
 ghost use Rattle.bd_space.specs.Words.{same};
-ghost use Rattle.bd_space.specs.declared.step.Identity as declared;
 ghost use Rattle.bd_records.specs.Slots.{id_in, row_room};
+ghost use Rattle.bd_space.specs.declared.step.Identity as declared;
 ghost use Rattle.bd_records.specs.Counting as spec;
 
 use crate::count::Count;

@@ -1,11 +1,5 @@
-use Rattle.std.proofs.Common.{◌≡◌, ◌<◌, true, None, Some, sym, ap, ◌∙◌, subst, arith}
-use Rattle.bd_ways.specs.Words.{Identity}
-use Rattle.bd_ways.specs.Local.{is_among}
-use Rattle.bd_space.proofs.Identities.{same_self}
-use Rattle.bd_numbered.specs.Numbered.{value_at}
-use Rattle.bd_records.specs.{Names.{named_by}, Ending.{is_named_at}, Asks.{asks}}
-use Rattle.bd_records.proofs.Dropping.{asks_named, both_ways}
-use Rattle.bd_records.proofs.Stepping.{IsBefore, still_ahead, is_before, before_more, ahead_less, not_shown}
+use Rattle.bd_records.proofs.Words.{Identity, None, Some, ap, arith, asks, is_among, is_named_at, named_by, same_self, subst, sym, true, value_at, ◌<◌, ◌∙◌, ◌≡◌}
+use Rattle.bd_records.proofs.{Dropping.{asks_named, both_ways}, Stepping.{IsBefore, ahead_less, before_more, is_before, not_shown, still_ahead}}
 use Rattle.bd_records.proofs.dropped.push_asked.Goals as goal
 
 pub loop-next-init : goal.loop-next-init

@@ -1,6 +1,4 @@
-use Rattle.std.proofs.Common.{◌≡◌, ℕ, true, ◌||◌, Some}
-use Rattle.bd_ways.specs.{Words.{Identity}, Local.{is_among}}
-use Rattle.bd_records.specs.{Names.{named_by}, Asks.{asks}}
+use Rattle.bd_records.proofs.Words.{Identity, Some, asks, is_among, named_by, true, ℕ, ◌||◌, ◌≡◌}
 use Rattle.bd_records.proofs.Stepping.{IsBefore, still_ahead}
 use Rattle.bd_records.proofs.dropped.push_asked.Given as goal
 

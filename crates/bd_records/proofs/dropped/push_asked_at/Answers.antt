@@ -1,9 +1,5 @@
-use Rattle.std.proofs.Common.{◌&&◌, ◌||◌, Option, sym, ap, ◌∙◌}
-use Rattle.std.proofs.lemmas.Result.{on_ok_weaker, on_err_weaker}
-use Rattle.bd_ways.specs.Words.{Identity, same}
-use Rattle.bd_ways.specs.Local.{is_among}
-use Rattle.bd_records.specs.{Ending.{is_named_at}, Asks.{asks}}
-use Rattle.bd_records.proofs.Dropping.{asked_if, nothing_there, clash}
+use Rattle.bd_records.proofs.Words.{Identity, Option, ap, asks, is_among, is_named_at, on_err_weaker, on_ok_weaker, same, sym, ◌&&◌, ◌||◌, ◌∙◌}
+use Rattle.bd_records.proofs.Dropping.{asked_if, clash, nothing_there}
 use Rattle.bd_records.proofs.dropped.push_asked_at.Goals as goal
 
 pub returns-in-Some-clause-pushed : goal.returns-in-Some-clause-pushed

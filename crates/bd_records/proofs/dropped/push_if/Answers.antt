@@ -1,6 +1,4 @@
-use Rattle.std.proofs.Common.{◌≡◌, Bool, true, false, ◌&&◌, ◌||◌, List, refl, ap, ◌∙◌}
-use Rattle.bd_ways.specs.Words.{Identity, same}
-use Rattle.bd_ways.specs.Local.{is_among}
+use Rattle.bd_records.proofs.Words.{Bool, Identity, List, ap, false, is_among, refl, same, true, ◌&&◌, ◌||◌, ◌∙◌, ◌≡◌}
 use Rattle.bd_records.proofs.Dropping.{among_one}
 use Rattle.bd_records.proofs.dropped.push_if.Goals as goal
 

@@ -1,7 +1,5 @@
-use Rattle.std.proofs.Common.{List, refl, sym, ap, ◌∙◌, subst, arith}
-use Rattle.bd_ways.specs.Words.{Identity}
-use Rattle.bd_records.specs.{Objects.{row_at}, Counted.{CountsAre}, Ending.{without_own}}
-use Rattle.bd_records.proofs.{Disowning.{others, kept_row, kept_owner, disowned_counts}, Ending.{own_more, own_none}}
+use Rattle.bd_records.proofs.Words.{CountsAre, Identity, List, ObjectRow, ap, arith, disowned, is_owner, option_map, refl, row_at, subst, sym, without_own, ◌∙◌}
+use Rattle.bd_records.proofs.{Disowning.{disowned_counts, others}, Ending.{own_more, own_none}, Tallies.{row_kept}}
 use Rattle.bd_records.proofs.exits.remove_of_each.Goals as goal
 
 pub loop-o-init : goal.loop-o-init
@@ -19,8 +17,8 @@ loop-o-preserved c =
             disowned_counts o O O' N xs inv.0 inv.1 c.remove_of_owner.ensures.disowned,
             own_more o _ inv.0 ∙ ap (λ (os : List Identity). without_own os inv.0) (sym c.in-Some.ensures.steps) ∙ inv.2,
           );
-      rows = λ y. kept_row o O O' c.remove_of_owner.ensures.disowned y ∙ c.loop-o.invariant.rows y;
-      owners = λ p y. kept_owner o O O' c.remove_of_owner.ensures.disowned p y ∙ c.loop-o.invariant.owners p y;
+      rows = λ y. row_kept (option_map (λ (v : ObjectRow). v.object)) disowned (λ v. refl) o O O' c.remove_of_owner.ensures.disowned y ∙ c.loop-o.invariant.rows y;
+      owners = λ p y. row_kept (is_owner p) disowned (λ v. refl) o O O' c.remove_of_owner.ensures.disowned y ∙ c.loop-o.invariant.owners p y;
       room = omega (arith, c.loop-o.invariant.room, c.remove_of_owner.ensures.uses);
     }
 

@@ -1,8 +1,4 @@
-use Rattle.std.proofs.Common.{◌≡◌, ◌≤◌, ℕ, List, Option}
-use Rattle.std.specs.Prelude.{option_map}
-use Rattle.bd_ways.specs.Words.{Identity, Object, Reference}
-use Rattle.bd_records.specs.declared.{row.ObjectRow.{ObjectRow}, row.NameRow.{NameRow}}
-use Rattle.bd_records.specs.{Objects.{row_at, object_room}, Counted.{CountsAre}, Records.{is_owner}, Ending.{without_own}}
+use Rattle.bd_records.proofs.Words.{CountsAre, Identity, List, NameRow, Object, ObjectRow, Option, Reference, is_owner, object_room, option_map, row_at, without_own, ℕ, ◌≡◌, ◌≤◌}
 use Rattle.bd_records.proofs.exits.remove_of_each.Given as goal
 
 abbrev pub invariant-loop-o : goal.invariant-loop-o

@@ -1,8 +1,4 @@
-use Rattle.std.proofs.Common.{◌≡◌, cond, None, Some, sym, ap, ◌∙◌, subst}
-use Rattle.std.specs.Prelude.{option_map}
-use Rattle.bd_numbered.specs.Numbered.{value_at}
-use Rattle.bd_records.specs.NumberKeys.{number_at}
-use Rattle.bd_records.specs.NameRows.{object_of}
+use Rattle.bd_records.proofs.Words.{None, Some, ap, cond, number_at, object_of, option_map, subst, sym, value_at, ◌∙◌, ◌≡◌}
 use Rattle.bd_records.proofs.{Given.{here}, Stepping.{not_shown}}
 use Rattle.bd_records.proofs.keys.remove_at.Goals as goal
 

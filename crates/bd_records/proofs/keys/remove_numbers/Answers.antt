@@ -1,9 +1,6 @@
-use Rattle.std.proofs.Common.{◌≡◌, None, Some, refl, sym, ◌∙◌, subst, ◌<◌, arith}
-use Rattle.bd_ways.specs.Words.{Identity}
-use Rattle.bd_numbered.specs.Numbered.{value_at}
-use Rattle.bd_records.specs.NumberKeys.{number_at}
+use Rattle.bd_records.proofs.Words.{Identity, None, Some, arith, number_at, refl, subst, sym, value_at, ◌<◌, ◌∙◌, ◌≡◌}
+use Rattle.bd_records.proofs.Stepping.{IsBefore, ahead_less, before_more, is_before, not_shown, still_ahead}
 use Rattle.bd_records.specs.NameRows.{object_in}
-use Rattle.bd_records.proofs.Stepping.{IsBefore, still_ahead, is_before, before_more, ahead_less, not_shown}
 use Rattle.bd_records.proofs.keys.remove_numbers.Goals as goal
 
 pub loop-next-init : goal.loop-next-init

@@ -1,9 +1,6 @@
-use Rattle.std.proofs.Common.{◌≡◌, ◌==◌, ◌≤◌, ℕ, false, Some, None}
-use Rattle.std.specs.HashMap.{spare}
-use Rattle.bd_ways.specs.Words.{Identity}
-use Rattle.bd_records.specs.NumberKeys.{number_at}
-use Rattle.bd_records.specs.NameRows.{object_in}
+use Rattle.bd_records.proofs.Words.{Identity, None, Some, false, number_at, spare, ℕ, ◌==◌, ◌≡◌, ◌≤◌}
 use Rattle.bd_records.proofs.Stepping.{IsBefore, still_ahead}
+use Rattle.bd_records.specs.NameRows.{object_in}
 use Rattle.bd_records.proofs.keys.remove_numbers.Given as goal
 
 abbrev pub invariant-loop-next : goal.invariant-loop-next

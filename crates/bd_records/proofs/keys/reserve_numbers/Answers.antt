@@ -1,4 +1,4 @@
-use Rattle.bd_records.specs.declared.number_key.ObjectKey.{ObjectKey}
+use Rattle.bd_records.proofs.Words.{ObjectKey}
 use Rattle.bd_records.proofs.keys.reserve_numbers.Goals as goal
 
 pub returns-clause-same : goal.returns-clause-same

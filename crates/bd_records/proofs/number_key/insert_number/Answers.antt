@@ -1,4 +1,4 @@
-use Rattle.bd_records.specs.declared.number_key.ObjectKey.{ObjectKey}
+use Rattle.bd_records.proofs.Words.{ObjectKey}
 use Rattle.bd_records.proofs.number_key.insert_number.Goals as goal
 
 pub returns-clause-at : goal.returns-clause-at

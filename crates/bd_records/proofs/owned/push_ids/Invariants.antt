@@ -1,5 +1,4 @@
-use Rattle.std.proofs.Common.{◌≡◌, ◌++◌, map}
-use Rattle.bd_records.specs.declared.owned.Possession.{Possession}
+use Rattle.bd_records.proofs.Words.{Possession, map, ◌++◌, ◌≡◌}
 use Rattle.bd_records.proofs.owned.push_ids.Given as goal
 
 abbrev pub invariant-loop-v : goal.invariant-loop-v

@@ -1,6 +1,4 @@
-use Rattle.std.proofs.Common.{◌≡◌, ◌++◌, map}
-use Rattle.bd_space.specs.declared.space.Reference.{Reference}
-use Rattle.bd_records.specs.declared.lying.Lying.{Lying}
+use Rattle.bd_records.proofs.Words.{Lying, Reference, map, ◌++◌, ◌≡◌}
 use Rattle.bd_records.proofs.records.push_objects.Given as goal
 
 abbrev pub invariant-loop-v : goal.invariant-loop-v

@@ -1,8 +1,4 @@
-use Rattle.std.proofs.Common.{◌≡◌, ℕ, Option, Some, None, refl, sym, ap, ◌∙◌, subst}
-use Rattle.std.specs.Prelude.{option_map, unwrap_or, false}
-use Rattle.std.specs.List.{list_any}
-use Rattle.bd_space.specs.References.{is_of_buffer}
-use Rattle.bd_records.specs.Buffers.{list_of}
+use Rattle.bd_records.proofs.Words.{None, Option, Some, ap, false, is_of_buffer, list_any, list_of, option_map, refl, subst, sym, unwrap_or, ℕ, ◌∙◌, ◌≡◌}
 use Rattle.bd_records.proofs.buffers.Buffers.close_of.Goals as goal
 
 pub returns-in-Some-clause-gone : goal.returns-in-Some-clause-gone

@@ -1,8 +1,5 @@
-use Rattle.std.proofs.Common.{false, refl, ◌∙◌}
-use Rattle.bd_space.specs.References.{is_in_window}
-use Rattle.bd_records.specs.Lying.{window_key}
-use Rattle.bd_records.specs.Buffers.{window_of}
-use Rattle.bd_records.proofs.{Pairing.{paired_references}, Buffering.{kept_buffers, any_of_key, window_says, in_held}}
+use Rattle.bd_records.proofs.Words.{false, is_in_window, refl, window_key, window_of, ◌∙◌}
+use Rattle.bd_records.proofs.{Buffering.{any_of_key, in_held, kept_buffers, window_says}, Pairing.{paired_references}}
 use Rattle.bd_records.proofs.buffers.Buffers.close_window.Goals as goal
 
 pub returns-clause-stands : goal.returns-clause-stands

@@ -1,9 +1,5 @@
-use Rattle.std.proofs.Common.{filter, map, sym, ap, ◌∙◌}
-use Rattle.bd_space.specs.References.{is_in_window}
-use Rattle.bd_records.specs.Lying.{window_key, same_key}
-use Rattle.bd_records.specs.Buffers.{window_list}
-use Rattle.bd_records.proofs.Pairing.{reference_of, paired_references}
-use Rattle.bd_records.proofs.Buffering.{of_key, on_key, window_says, in_held}
+use Rattle.bd_records.proofs.Words.{ap, filter, is_in_window, map, same_key, sym, window_key, window_list, ◌∙◌}
+use Rattle.bd_records.proofs.{Buffering.{in_held, of_key, on_key, window_says}, Pairing.{paired_references, reference_of}}
 use Rattle.bd_records.proofs.buffers.Buffers.in_window.Goals as goal
 
 pub returns : goal.returns

@@ -1,14 +1,6 @@
-use Rattle.std.proofs.Common.{false, [], ◌∷◌, ◌++◌, is_some, refl, ap, ◌∙◌, subst, arith}
-use Rattle.std.specs.Prelude.{unwrap_or}
-use Rattle.bd_chains.specs.Rows.{Row}
-use Rattle.bd_chains.specs.Columns.{Holds}
-use Rattle.bd_chains.specs.Setting.{set_row}
-use Rattle.bd_chains.proofs.Listing.{kept_shows}
-use Rattle.bd_records.specs.declared.lying.Lying.{Lying}
-use Rattle.bd_records.specs.Lying.{same_key}
-use Rattle.bd_records.specs.Buffers.{buffer_of, window_of, is_held}
+use Rattle.bd_records.proofs.Words.{Holds, Lying, Row, [], ap, arith, buffer_of, false, is_held, is_some, kept_shows, refl, same_key, set_row, subst, unwrap_or, window_of, ◌++◌, ◌∙◌, ◌∷◌}
+use Rattle.bd_records.proofs.{Lists.{filter_more}, Pairing.{last_listed, last_set, paired_more, references_more}}
 use Rattle.std.specs.HashMap.{get}
-use Rattle.bd_records.proofs.{Lists.{filter_more}, Pairing.{references_more, paired_more, last_set, last_listed}}
 use Rattle.bd_records.proofs.buffers.Buffers.insert.Goals as goal
 
 pub returns-clause-stands : goal.returns-clause-stands

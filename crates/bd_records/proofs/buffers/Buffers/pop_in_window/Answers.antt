@@ -1,14 +1,5 @@
-use Rattle.std.proofs.Common.{◌≡◌, ℕ, false, Some, None, refl, sym, ap, ◌∙◌, subst, arith}
-use Rattle.std.specs.Prelude.{option_map}
-use Rattle.bd_ways.specs.Words.{Reference}
-use Rattle.bd_space.specs.References.{is_in_window}
-use Rattle.bd_chains.specs.declared.links.Held.{Held}
-use Rattle.bd_chains.proofs.Listing.{dropped_shows}
-use Rattle.bd_records.specs.declared.lying.Lying.{Lying}
-use Rattle.bd_records.specs.Lying.{same_key, lying_at}
-use Rattle.bd_records.specs.Buffers.{buffer_of, window_of, list_of, window_list, BuffersAre}
-use Rattle.bd_records.proofs.Pairing.{reference_of}
-use Rattle.bd_records.proofs.Buffering.{found_in_window, left_in_window, none_in_window, dropped_windows, first_slot, none_found, none_without}
+use Rattle.bd_records.proofs.Words.{BuffersAre, Held, Lying, None, Reference, Some, ap, arith, buffer_of, dropped_shows, false, is_in_window, list_of, lying_at, option_map, refl, same_key, subst, sym, window_list, window_of, ℕ, ◌∙◌, ◌≡◌}
+use Rattle.bd_records.proofs.{Buffering.{dropped_windows, first_slot, found_in_window, left_in_window, none_found, none_in_window, none_without}, Pairing.{reference_of}}
 use Rattle.bd_records.proofs.buffers.Buffers.pop_in_window.Goals as goal
 
 pub returns-in-Some-clause-first : goal.returns-in-Some-clause-first

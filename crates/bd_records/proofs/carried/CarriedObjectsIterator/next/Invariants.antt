@@ -1,6 +1,4 @@
-use Rattle.std.proofs.Common.{◌≡◌, length, map}
-use Rattle.bd_records.specs.Carried.{carried_in}
-use Rattle.bd_records.specs.declared.lying.Lying.{Lying}
+use Rattle.bd_records.proofs.Words.{Lying, carried_in, length, map, ◌≡◌}
 use Rattle.bd_records.proofs.carried.CarriedObjectsIterator.next.Given as goal
 
 abbrev pub invariant-loop-v : goal.invariant-loop-v

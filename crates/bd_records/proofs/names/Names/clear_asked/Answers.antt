@@ -1,9 +1,5 @@
-use Rattle.std.proofs.Common.{◌≡◌, ◌∙◌, ap, sym, arith}
-use Rattle.bd_ways.specs.Words.{Identity}
-use Rattle.bd_chains.specs.Chain.{is_at}
-use Rattle.bd_records.specs.{declared.row.NameRow.{NameRow}, Counting.{unasked}, NumberKeys.{number_at}}
-use Rattle.bd_numbered.specs.Numbered.{value_at}
-use Rattle.bd_records.proofs.NameTurns.{turned_found, turned_leads, turned_at, meant_is}
+use Rattle.bd_records.proofs.Words.{Identity, NameRow, ap, arith, is_at, number_at, sym, unasked, value_at, ◌∙◌, ◌≡◌}
+use Rattle.bd_records.proofs.NameTurns.{meant_is, turned_at, turned_found, turned_leads}
 use Rattle.bd_records.proofs.names.Names.clear_asked.Goals as goal
 
 kept_object : (o : Identity) (w : NameRow) → w.object ≡ o → (unasked w).object ≡ o

@@ -1,12 +1,5 @@
-use Rattle.std.proofs.Common.{◌≡◌, ◌≤◌, ℕ, ◌==◌, Bool, true, false, cond, ◌&&◌, Some, None, sym, refl, ap, ◌∙◌, arith}
-use Rattle.std.specs.Prelude.{option_map}
-use Rattle.bd_ways.specs.Words.{Identity, same}
-use Rattle.bd_numbered.specs.Numbered.{value_at}
-use Rattle.bd_records.specs.NumberKeys.{number_at}
-use Rattle.bd_records.specs.{NameRows.{object_of, new_row}, Slots.{on_slot}}
-use Rattle.bd_records.proofs.Naming.{by_process, own_process, put_is, same_slots}
-use Rattle.bd_records.proofs.Keyed.{put_found, put_leads, put_at, AreFound, Lead}
-use Rattle.bd_records.proofs.Latest.{noted}
+use Rattle.bd_records.proofs.Words.{Bool, Identity, None, Some, ap, arith, cond, false, new_row, number_at, object_of, on_slot, option_map, refl, same, sym, true, value_at, ℕ, ◌&&◌, ◌==◌, ◌∙◌, ◌≡◌, ◌≤◌}
+use Rattle.bd_records.proofs.{Keyed.{AreFound, Lead, put_at, put_found, put_leads}, Latest.{noted}, Naming.{by_process, own_process, put_is, same_slots}}
 use Rattle.bd_records.proofs.names.Names.give.Goals as goal
 
 pub invariant_of-self-clause-found : goal.invariant_of-self-clause-found

@@ -1,4 +1,4 @@
-use Rattle.std.proofs.Common.{sym, ◌∙◌}
+use Rattle.bd_records.proofs.Words.{sym, ◌∙◌}
 use Rattle.bd_records.proofs.names.Names.remove.Goals as goal
 
 pub remove_at-requires : goal.remove_at-requires

@@ -1,12 +1,5 @@
-use Rattle.std.proofs.Common.{◌≡◌, ◌≤◌, ℕ, ◌==◌, Bool, true, false, cond, ◌&&◌, Some, None, sym, refl, ◌∙◌, arith}
-use Rattle.std.specs.Prelude.{option_map}
-use Rattle.bd_ways.specs.Words.{Identity, same}
-use Rattle.bd_numbered.specs.Numbered.{value_at}
-use Rattle.bd_records.specs.NumberKeys.{number_at}
-use Rattle.bd_records.specs.{NameRows.{object_of}, Slots.{on_slot}}
-use Rattle.bd_records.proofs.Naming.{by_process, own_process}
-use Rattle.bd_records.proofs.Keyed.{gone_found, gone_leads, gone_at, AreFound, Lead}
-use Rattle.bd_records.proofs.Latest.{gone}
+use Rattle.bd_records.proofs.Words.{Bool, Identity, None, Some, arith, cond, false, number_at, object_of, on_slot, option_map, refl, same, sym, true, value_at, ℕ, ◌&&◌, ◌==◌, ◌∙◌, ◌≡◌, ◌≤◌}
+use Rattle.bd_records.proofs.{Keyed.{AreFound, Lead, gone_at, gone_found, gone_leads}, Latest.{gone}, Naming.{by_process, own_process}}
 use Rattle.bd_records.proofs.names.Names.remove_at.Goals as goal
 
 pub invariant_of-self-clause-found : goal.invariant_of-self-clause-found

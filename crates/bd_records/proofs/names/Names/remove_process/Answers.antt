@@ -1,8 +1,5 @@
-use Rattle.std.proofs.Common.{◌==◌}
-use Rattle.bd_numbered.specs.Numbered.{value_at}
-use Rattle.bd_records.specs.NumberKeys.{number_at}
-use Rattle.bd_records.proofs.Latest.{all_gone}
-use Rattle.bd_records.proofs.Stepping.{ended_numbers, ended_named, ended_names, ended_found, ended_leads, ended_small}
+use Rattle.bd_records.proofs.Words.{number_at, value_at, ◌==◌}
+use Rattle.bd_records.proofs.{Latest.{all_gone}, Stepping.{ended_found, ended_leads, ended_named, ended_names, ended_numbers, ended_small}}
 use Rattle.bd_records.proofs.names.Names.remove_process.Goals as goal
 
 pub invariant_of-self-clause-found : goal.invariant_of-self-clause-found

@@ -1,6 +1,4 @@
-use Rattle.std.proofs.Common.{◌≡◌, true, false, is_some, sym, ap, ◌∙◌}
-use Rattle.bd_numbered.specs.Numbered.{value_at}
-use Rattle.bd_records.specs.NameRows.{object_of}
+use Rattle.bd_records.proofs.Words.{ap, false, is_some, object_of, sym, true, value_at, ◌∙◌, ◌≡◌}
 use Rattle.bd_records.proofs.Naming.{shown_some}
 use Rattle.bd_records.proofs.names.Names.spot_among.Goals as goal
 

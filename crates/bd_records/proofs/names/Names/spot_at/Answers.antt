@@ -1,7 +1,4 @@
-use Rattle.std.proofs.Common.{Some, sym, ap, ◌∙◌}
-use Rattle.std.specs.Prelude.{option_map, option_copied}
-use Rattle.bd_space.proofs.Identities.{same_eq}
-use Rattle.bd_records.specs.NameRows.{object_of}
+use Rattle.bd_records.proofs.Words.{Some, ap, object_of, option_copied, option_map, same_eq, sym, ◌∙◌}
 use Rattle.bd_records.proofs.names.Names.spot_at.Goals as goal
 
 pub returns-then-eq-clause-number : goal.returns-then-eq-clause-number

@@ -1,8 +1,5 @@
-use Rattle.std.proofs.Common.{◌≡◌, Bool, true, false}
-use Rattle.bd_ways.specs.Words.{Reference}
-use Rattle.bd_records.specs.{declared.row.NameRow.{NameRow}, Counting.{name_turned}, NumberKeys.{number_at}}
-use Rattle.bd_numbered.specs.Numbered.{value_at}
-use Rattle.bd_records.proofs.NameTurns.{turned_found, turned_leads, turned_at, meant_is}
+use Rattle.bd_records.proofs.Words.{Bool, NameRow, Reference, false, name_turned, number_at, true, value_at, ◌≡◌}
+use Rattle.bd_records.proofs.NameTurns.{meant_is, turned_at, turned_found, turned_leads}
 use Rattle.bd_records.proofs.names.Names.turn_at.Goals as goal
 
 kept_object : (more : Bool) (r : Reference) (w : NameRow) → w.object ≡ r.object → (name_turned more r w).object ≡ r.object

@@ -1,11 +1,5 @@
-use Rattle.std.proofs.Common.{◌≡◌, ◌==◌, true, false, None, sym, refl, ◌∙◌, arith}
-use Rattle.std.specs.HashMap.{get_by}
-use Rattle.slab.specs.Slab.{get}
-use Rattle.bd_ways.specs.Words.{Identity, same}
-use Rattle.bd_records.specs.declared.row.ObjectRow.{ObjectRow}
-use Rattle.bd_records.specs.Objects.{slot_at}
-use Rattle.bd_records.proofs.Keyed.{put_found, put_leads, put_at}
-use Rattle.bd_records.proofs.Latest.{noted}
+use Rattle.bd_records.proofs.Words.{Identity, None, ObjectRow, arith, false, get, get_by, refl, same, slot_at, sym, true, ◌==◌, ◌∙◌, ◌≡◌}
+use Rattle.bd_records.proofs.{Keyed.{put_at, put_found, put_leads}, Latest.{noted}}
 use Rattle.bd_records.proofs.objects.Objects.insert.Goals as goal
 
 abbrev id : ObjectRow → Identity

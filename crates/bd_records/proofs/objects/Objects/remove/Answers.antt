@@ -1,12 +1,5 @@
-use Rattle.std.proofs.Common.{◌≡◌, true, sym, subst, IfSome, ◌∙◌}
-use Rattle.std.specs.HashMap.{get_by}
-use Rattle.slab.specs.Slab.{get}
-use Rattle.bd_ways.specs.Words.{Identity, same}
-use Rattle.bd_records.specs.declared.row.ObjectRow.{ObjectRow}
-use Rattle.bd_records.specs.Objects.{slot_at}
-use Rattle.bd_records.proofs.Keyed.{gone_found, gone_leads, gone_at}
-use Rattle.bd_records.proofs.Latest.{gone}
-use Rattle.bd_records.proofs.Naming.{shown_is}
+use Rattle.bd_records.proofs.Words.{Identity, IfSome, ObjectRow, get, get_by, same, slot_at, subst, sym, true, ◌∙◌, ◌≡◌}
+use Rattle.bd_records.proofs.{Keyed.{gone_at, gone_found, gone_leads}, Latest.{gone}, Naming.{shown_is}}
 use Rattle.bd_records.proofs.objects.Objects.remove.Goals as goal
 
 abbrev id : ObjectRow → Identity

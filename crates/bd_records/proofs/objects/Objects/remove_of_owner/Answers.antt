@@ -1,10 +1,5 @@
-use Rattle.std.proofs.Common.{sym, ◌∙◌}
-use Rattle.bd_records.specs.Counting.{disowned}
-use Rattle.slab.specs.Slab.{get}
-use Rattle.bd_ways.specs.Words.{Identity}
-use Rattle.bd_records.specs.declared.row.ObjectRow.{ObjectRow}
-use Rattle.bd_records.specs.Objects.{slot_at}
-use Rattle.bd_records.proofs.Keyed.{set_found, set_leads, set_at}
+use Rattle.bd_records.proofs.Words.{Identity, ObjectRow, disowned, get, slot_at, sym, ◌∙◌}
+use Rattle.bd_records.proofs.Keyed.{set_at, set_found, set_leads}
 use Rattle.bd_records.proofs.objects.Objects.remove_of_owner.Goals as goal
 
 abbrev id : ObjectRow → Identity

@@ -1,7 +1,4 @@
-use Rattle.std.proofs.Common.{◌≡◌, sym, subst, IfSome, ◌∙◌}
-use Rattle.slab.specs.Slab.{get}
-use Rattle.bd_ways.specs.Words.{Identity}
-use Rattle.bd_records.specs.declared.row.ObjectRow.{ObjectRow}
+use Rattle.bd_records.proofs.Words.{Identity, IfSome, ObjectRow, get, subst, sym, ◌∙◌, ◌≡◌}
 use Rattle.bd_records.proofs.Naming.{shown_is}
 use Rattle.bd_records.proofs.objects.Objects.row_of.Goals as goal
 

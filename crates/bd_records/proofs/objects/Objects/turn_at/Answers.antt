@@ -1,11 +1,5 @@
-use Rattle.std.proofs.Common.{◌≡◌, Bool, true, false}
-use Rattle.bd_ways.specs.Words.{Reference}
-use Rattle.bd_records.specs.Counting.{turned}
-use Rattle.slab.specs.Slab.{get}
-use Rattle.bd_ways.specs.Words.{Identity}
-use Rattle.bd_records.specs.declared.row.ObjectRow.{ObjectRow}
-use Rattle.bd_records.specs.Objects.{slot_at}
-use Rattle.bd_records.proofs.Keyed.{set_found, set_leads, set_at}
+use Rattle.bd_records.proofs.Words.{Bool, Identity, ObjectRow, Reference, false, get, slot_at, true, turned, ◌≡◌}
+use Rattle.bd_records.proofs.Keyed.{set_at, set_found, set_leads}
 use Rattle.bd_records.proofs.objects.Objects.turn_at.Goals as goal
 
 abbrev id : ObjectRow → Identity

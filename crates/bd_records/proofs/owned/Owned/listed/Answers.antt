@@ -1,5 +1,4 @@
-use Rattle.std.proofs.Common.{map, List, ap, ◌∙◌}
-use Rattle.bd_records.specs.declared.owned.Possession.{Possession}
+use Rattle.bd_records.proofs.Words.{List, Possession, ap, map, ◌∙◌}
 use Rattle.bd_records.proofs.Possessing.{id_of, ids_of}
 use Rattle.bd_records.proofs.owned.Owned.listed.Goals as goal
 

@@ -1,8 +1,6 @@
-use Rattle.std.proofs.Common.{◌==◌, false, filter, sym, ap, ◌∙◌, eqb-true}
-use Rattle.bd_chains.proofs.Listing.{on_list}
-use Rattle.bd_records.specs.declared.owned.Possession.{Possession}
-use Rattle.bd_records.specs.Owned.{owner_of, same_owner, list_of}
+use Rattle.bd_records.proofs.Words.{Possession, ap, eqb-true, false, filter, on_list, owner_of, same_owner, sym, ◌==◌, ◌∙◌}
 use Rattle.bd_records.proofs.Possessing.{possessions_of}
+use Rattle.bd_records.specs.Owned.{list_of}
 use Rattle.bd_records.proofs.owned.Owned.of.Goals as goal
 
 pub returns : goal.returns

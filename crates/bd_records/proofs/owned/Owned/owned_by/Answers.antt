@@ -1,8 +1,4 @@
-use Rattle.std.proofs.Common.{◌++◌, map, List, ap, ◌∙◌}
-use Rattle.std.proofs.lemmas.Result.{on_ok_weaker, on_err_weaker}
-use Rattle.bd_ways.specs.Words.{Identity}
-use Rattle.bd_records.specs.declared.owned.Possession.{Possession}
-use Rattle.bd_records.specs.Owned.{possession}
+use Rattle.bd_records.proofs.Words.{Identity, List, Possession, ap, map, on_err_weaker, on_ok_weaker, possession, ◌++◌, ◌∙◌}
 use Rattle.bd_records.proofs.Possessing.{id_of, ids_of}
 use Rattle.bd_records.proofs.owned.Owned.owned_by.Goals as goal
 

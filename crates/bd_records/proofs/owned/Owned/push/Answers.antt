@@ -1,18 +1,5 @@
-use Rattle.std.proofs.Common.{◌≡◌, false, cond, [], ◌∷◌, ◌++◌, Some, None, refl, sym, ap, ◌∙◌, subst, arith}
-use Rattle.std.specs.Prelude.{option_map}
-use Rattle.bd_keys.specs.declared.key.WordKey.{WordKey}
-use Rattle.bd_keys.specs.Keys.{same_word}
-use Rattle.bd_keys.specs.Look.{look}
-use Rattle.bd_keys.proofs.Keys.{word_eq, word_self}
-use Rattle.bd_space.specs.Words.{same}
-use Rattle.bd_space.proofs.Identities.{same_eq, same_self}
-use Rattle.bd_chains.specs.Rows.{Row}
-use Rattle.bd_records.specs.ObjectKeys.{id_key, own_key}
-use Rattle.bd_records.proofs.Distinct.{push_distinct}
-use Rattle.bd_records.proofs.Maps.{finds_push}
-use Rattle.bd_records.specs.declared.{owned.Spot.{Spot}, owned.Possession.{Possession}}
-use Rattle.bd_records.specs.Owned.{possession, owner_of, id_at}
-use Rattle.bd_records.proofs.Possessing.{map_cond, values_more, possessions_more, spots_more, none_at, higher_more}
+use Rattle.bd_records.proofs.Words.{None, Possession, Row, Some, Spot, WordKey, [], ap, arith, cond, false, id_at, id_key, look, option_map, own_key, owner_of, possession, refl, same, same_eq, same_self, same_word, subst, sym, word_eq, word_self, ◌++◌, ◌∙◌, ◌∷◌, ◌≡◌}
+use Rattle.bd_records.proofs.{Distinct.{push_distinct}, Maps.{finds_push}, Possessing.{higher_more, map_cond, none_at, possessions_more, spots_more, values_more}}
 use Rattle.bd_records.proofs.owned.Owned.push.Goals as goal
 
 pub returns-clause-stands : goal.returns-clause-stands

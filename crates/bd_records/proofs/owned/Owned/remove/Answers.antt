@@ -1,21 +1,6 @@
-use Rattle.std.proofs.Common.{◌≡◌, cond, not, false, filter, Some, None, refl, sym, ap, ◌∙◌, subst, arith}
-use Rattle.std.specs.Prelude.{option_map}
-use Rattle.bd_keys.specs.declared.key.WordKey.{WordKey}
-use Rattle.bd_keys.specs.Keys.{same_word}
-use Rattle.bd_keys.specs.Look.{look}
-use Rattle.bd_keys.proofs.Keys.{word_eq, word_self}
-use Rattle.bd_space.specs.declared.space.Object.{Object}
-use Rattle.bd_space.specs.Words.{same}
-use Rattle.bd_chains.specs.Rows.{values, drop_key}
-use Rattle.bd_chains.proofs.Listing.{dropped_shows}
-use Rattle.bd_records.specs.ObjectKeys.{id_key, own_key}
-use Rattle.bd_records.specs.Maps.{AreDistinct}
-use Rattle.bd_records.proofs.Changes.{only_own}
-use Rattle.bd_records.proofs.Distinct.{filter_distinct}
-use Rattle.bd_records.proofs.Maps.{finds_remove}
-use Rattle.bd_records.specs.declared.{owned.Spot.{Spot}, owned.Possession.{Possession}}
-use Rattle.bd_records.specs.Owned.{owner_of, same_owner, list_of, id_at}
-use Rattle.bd_records.proofs.Possessing.{id_of, map_cond, values_less, possessions_less, possessions_apart, spot_is, spots_less, higher_more}
+use Rattle.bd_records.proofs.Words.{AreDistinct, None, Object, Possession, Some, Spot, WordKey, ap, arith, cond, drop_key, dropped_shows, false, filter, id_at, id_key, look, not, option_map, own_key, owner_of, refl, same, same_owner, same_word, subst, sym, values, word_eq, word_self, ◌∙◌, ◌≡◌}
+use Rattle.bd_records.proofs.{Changes.{only_own}, Distinct.{filter_distinct}, Maps.{finds_remove}, Possessing.{higher_more, id_of, map_cond, possessions_apart, possessions_less, spot_is, spots_less, values_less}}
+use Rattle.bd_records.specs.Owned.{list_of}
 use Rattle.bd_records.proofs.owned.Owned.remove.Goals as goal
 
 pub returns-in-Some-clause-stands : goal.returns-in-Some-clause-stands

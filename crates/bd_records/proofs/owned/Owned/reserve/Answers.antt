@@ -1,7 +1,4 @@
-use Rattle.std.proofs.Common.{false, sym, ap, ◌∙◌}
-use Rattle.std.specs.Prelude.{option_map}
-use Rattle.bd_records.specs.declared.owned.Spot.{Spot}
-use Rattle.bd_records.specs.Owned.{owner_of}
+use Rattle.bd_records.proofs.Words.{Spot, ap, false, option_map, owner_of, sym, ◌∙◌}
 use Rattle.bd_records.proofs.owned.Owned.reserve.Goals as goal
 
 pub returns-clause-stands : goal.returns-clause-stands

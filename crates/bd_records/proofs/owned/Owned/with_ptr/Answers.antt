@@ -1,7 +1,4 @@
-use Rattle.std.proofs.Common.{sym, ap, ◌∙◌}
-use Rattle.std.specs.Prelude.{option_map}
-use Rattle.bd_keys.specs.declared.key.WordKey.{WordKey}
-use Rattle.bd_records.specs.declared.owned.Spot.{Spot}
+use Rattle.bd_records.proofs.Words.{Spot, WordKey, ap, option_map, sym, ◌∙◌}
 use Rattle.bd_records.proofs.Possessing.{none_higher}
 use Rattle.bd_records.proofs.owned.Owned.with_ptr.Goals as goal
 

@@ -1,7 +1,5 @@
-use Rattle.std.proofs.Common.{◌≡◌}
-use Rattle.bd_records.specs.declared.row.ObjectRow.{ObjectRow}
-use Rattle.bd_records.specs.{Count.{no_count}, Objects.{row_at}, Names.{name_at}}
-use Rattle.bd_records.proofs.Coming.{came_objects, came_owners, came_counts}
+use Rattle.bd_records.proofs.Words.{ObjectRow, name_at, no_count, row_at, ◌≡◌}
+use Rattle.bd_records.proofs.Coming.{came_counts, came_objects, came_owners}
 use Rattle.bd_records.proofs.records.Records.add_object.Goals as goal
 
 pub returns-clause-stands : goal.returns-clause-stands

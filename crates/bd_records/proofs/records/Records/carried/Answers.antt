@@ -1,7 +1,4 @@
-use Rattle.std.proofs.Common.{◌≡◌, ℕ, true, map, ap, ◌∙◌}
-use Rattle.bd_ways.specs.Words.{Reference, Holder, Asked, Carried, Target, Handshake, Manager}
-use Rattle.bd_space.specs.References.{is_of_buffer}
-use Rattle.bd_records.specs.Carried.{is_carried_by, carried_in}
+use Rattle.bd_records.proofs.Words.{Asked, Carried, Handshake, Holder, Manager, Reference, Target, ap, carried_in, is_carried_by, is_of_buffer, map, true, ℕ, ◌∙◌, ◌≡◌}
 use Rattle.bd_records.proofs.Lists.{filter_within}
 use Rattle.bd_records.proofs.records.Records.carried.Goals as goal
 

@@ -1,11 +1,5 @@
-use Rattle.std.proofs.Common.{refl, ◌≡◌, false, true, cond, None, Bool, ap, sym, subst, ◌∙◌, arith, count_by}
-use Rattle.std.specs.Prelude.{option_map}
-use Rattle.bd_ways.specs.Words.{Identity, same}
-use Rattle.bd_space.specs.References.{is_asking}
-use Rattle.bd_records.specs.{Count.{of_strength}, Counting.{asked_of, lowered}, Objects.{row_at}, Names.{name_at}, Buffers.{is_held}, Records.{RecordsAre}}
-use Rattle.bd_records.proofs.{Buffering.{same_buffers}, Named.{names_kept}, Given.{settled_kept}}
-use Rattle.bd_records.proofs.Disowning.{kept_in_rest, rest_shorter}
-use Rattle.bd_records.proofs.Forgetting.{asked_to, unasked_by, held_not_asked, lowered_objects, lowered_owners, forgotten_counts, nothing_asked}
+use Rattle.bd_records.proofs.Words.{Bool, Identity, None, RecordsAre, ap, arith, asked_of, cond, count_by, false, is_asking, is_held, lowered, name_at, of_strength, option_map, refl, row_at, same, subst, sym, true, ◌∙◌, ◌≡◌}
+use Rattle.bd_records.proofs.{Buffering.{same_buffers}, Disowning.{kept_in_rest, rest_shorter}, Forgetting.{asked_to, forgotten_counts, held_not_asked, lowered_objects, lowered_owners, nothing_asked, unasked_by}, Given.{settled_kept}, Named.{names_kept}}
 use Rattle.bd_records.proofs.records.Records.drop_all_asked.Goals as goal
 
 pub returns-in-Some-clause-stands : goal.returns-in-Some-clause-stands

@@ -1,7 +1,4 @@
-use Rattle.std.proofs.Common.{◌≡◌, filter, not, ◌&&◌, Some, None, sym, ap, ◌∙◌, subst}
-use Rattle.bd_ways.specs.Words.{Reference}
-use Rattle.bd_space.specs.References.{is_asked_by}
-use Rattle.bd_records.specs.{Names.{named_by}, Records.{RecordsAre}, Ending.{is_named_at}}
+use Rattle.bd_records.proofs.Words.{None, RecordsAre, Reference, Some, ap, filter, is_asked_by, is_named_at, named_by, not, subst, sym, ◌&&◌, ◌∙◌, ◌≡◌}
 use Rattle.bd_records.proofs.AskedFor.{kept_unnamed}
 use Rattle.bd_records.proofs.records.Records.drop_asked_at.Goals as goal
 

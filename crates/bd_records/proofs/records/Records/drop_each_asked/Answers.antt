@@ -1,11 +1,5 @@
-use Rattle.std.proofs.Common.{◌≡◌, ◌<◌, false, None, Some, refl, sym, ◌∙◌, subst, arith}
-use Rattle.std.specs.List.{list_any}
-use Rattle.bd_ways.specs.Words.{Identity}
-use Rattle.bd_numbered.specs.Numbered.{value_at}
-use Rattle.bd_records.specs.{Names.{named_by}, Records.{RecordsAre}}
-use Rattle.bd_records.proofs.{Forgetting.{asked_to}, Given.{uses_nothing}, Lists.{nothing_goes}}
-use Rattle.bd_records.proofs.AskedFor.{asked_by, unnamed, others_stay, still_unasked, now_unasked, all_unasked, nothing_asked_for}
-use Rattle.bd_records.proofs.Stepping.{IsBefore, still_ahead, is_before, before_more, ahead_less, not_shown}
+use Rattle.bd_records.proofs.Words.{Identity, None, RecordsAre, Some, arith, false, list_any, named_by, refl, subst, sym, value_at, ◌<◌, ◌∙◌, ◌≡◌}
+use Rattle.bd_records.proofs.{AskedFor.{all_unasked, asked_by, nothing_asked_for, now_unasked, others_stay, still_unasked, unnamed}, Forgetting.{asked_to}, Given.{uses_nothing}, Lists.{nothing_goes}, Stepping.{IsBefore, ahead_less, before_more, is_before, not_shown, still_ahead}}
 use Rattle.bd_records.proofs.records.Records.drop_each_asked.Goals as goal
 
 pub loop-next-init : goal.loop-next-init

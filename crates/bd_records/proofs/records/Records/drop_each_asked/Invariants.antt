@@ -1,8 +1,5 @@
-use Rattle.std.proofs.Common.{◌≡◌, ℕ, false, List, Some}
-use Rattle.std.specs.List.{list_any}
-use Rattle.bd_ways.specs.Words.{Identity, Object, Reference}
-use Rattle.bd_records.specs.{Names.{named_by}, Records.{RecordsAre}, Room.{Uses}, Since.{KeepsSettled}}
-use Rattle.bd_records.proofs.{Forgetting.{asked_to}, AskedFor.{others_than}, Stepping.{IsBefore, still_ahead}}
+use Rattle.bd_records.proofs.Words.{Identity, KeepsSettled, List, Object, RecordsAre, Reference, Some, Uses, false, list_any, named_by, ℕ, ◌≡◌}
+use Rattle.bd_records.proofs.{AskedFor.{others_than}, Forgetting.{asked_to}, Stepping.{IsBefore, still_ahead}}
 use Rattle.bd_records.proofs.records.Records.drop_each_asked.Given as goal
 
 abbrev pub invariant-loop-next : goal.invariant-loop-next

@@ -1,7 +1,5 @@
-use Rattle.std.proofs.Common.{◌++◌, map, List, sym, ap, ◌∙◌}
-use Rattle.std.proofs.lemmas.Result.{on_ok_weaker, on_err_weaker}
-use Rattle.bd_ways.specs.Words.{Reference}
-use Rattle.bd_records.proofs.Dropping.{among_both, asks_is, none_either, nil_of_references, not_false, on_err_of}
+use Rattle.bd_records.proofs.Words.{List, Reference, ap, map, on_err_weaker, on_ok_weaker, sym, ◌++◌, ◌∙◌}
+use Rattle.bd_records.proofs.Dropping.{among_both, asks_is, nil_of_references, none_either, not_false, on_err_of}
 use Rattle.bd_records.proofs.records.Records.dropped_with_process.Goals as goal
 
 pub returns-clause-all : goal.returns-clause-all

@@ -1,7 +1,5 @@
-use Rattle.std.proofs.Common.{◌≡◌, nat_lt, true, false, not, ◌||◌, sym, ap, ◌∙◌, count_by}
-use Rattle.bd_records.specs.Count.{of_strength}
-use Rattle.bd_records.specs.Counting.{total_of, is_to}
-use Rattle.bd_records.proofs.Holding.{not_empty, held_counts, strong_counts}
+use Rattle.bd_records.proofs.Words.{ap, count_by, false, is_to, nat_lt, not, of_strength, sym, total_of, true, ◌||◌, ◌∙◌, ◌≡◌}
+use Rattle.bd_records.proofs.Holding.{held_counts, not_empty, strong_counts}
 use Rattle.bd_records.proofs.records.Records.hold.Goals as goal
 
 pub returns-in-Some-clause-held : goal.returns-in-Some-clause-held

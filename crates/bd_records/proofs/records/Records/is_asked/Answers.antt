@@ -1,7 +1,4 @@
-use Rattle.std.proofs.Common.{◌≡◌, ℕ, nat_lt, Bool, true, false, None, sym, ap, ◌∙◌, arith, count_by}
-use Rattle.bd_space.specs.References.{is_asking}
-use Rattle.bd_records.specs.Count.{of_strength}
-use Rattle.bd_records.specs.Counting.{asked_of}
+use Rattle.bd_records.proofs.Words.{Bool, None, ap, arith, asked_of, count_by, false, is_asking, nat_lt, of_strength, sym, true, ℕ, ◌∙◌, ◌≡◌}
 use Rattle.bd_records.proofs.Lists.{any_counts}
 use Rattle.bd_records.proofs.records.Records.is_asked.Goals as goal
 

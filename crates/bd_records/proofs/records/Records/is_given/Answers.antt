@@ -1,8 +1,4 @@
-use Rattle.std.proofs.Common.{◌≡◌, false, not, ◌&&◌, ap, sym, ◌∙◌}
-use Rattle.std.specs.List.{list_any}
-use Rattle.bd_ways.specs.Words.{same}
-use Rattle.bd_space.specs.References.{owned_in, gives_name_to}
-use Rattle.bd_records.specs.{Names.{name_at}, Objects.{row_at}}
+use Rattle.bd_records.proofs.Words.{ap, false, gives_name_to, list_any, name_at, not, owned_in, row_at, same, sym, ◌&&◌, ◌∙◌, ◌≡◌}
 use Rattle.bd_records.proofs.Holding.{given_counts, given_last}
 use Rattle.bd_records.proofs.records.Records.is_given.Goals as goal
 

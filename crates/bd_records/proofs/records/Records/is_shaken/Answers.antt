@@ -1,7 +1,4 @@
-use Rattle.std.proofs.Common.{◌≡◌, ℕ, nat_lt, Bool, true, false, None, sym, ap, ◌∙◌, arith, count_by}
-use Rattle.bd_space.specs.References.{is_shaking}
-use Rattle.bd_records.specs.Count.{of_strength}
-use Rattle.bd_records.specs.Counting.{owed_of}
+use Rattle.bd_records.proofs.Words.{Bool, None, ap, arith, count_by, false, is_shaking, nat_lt, of_strength, owed_of, sym, true, ℕ, ◌∙◌, ◌≡◌}
 use Rattle.bd_records.proofs.Lists.{any_counts}
 use Rattle.bd_records.proofs.records.Records.is_shaken.Goals as goal
 

@@ -1,14 +1,5 @@
-use Rattle.std.proofs.Common.{◌≡◌, nat_lt, None, Some, true, false, not, sym, ap, ◌∙◌, subst, IfSome, count_by}
-use Rattle.std.specs.Prelude.{option_map}
-use Rattle.slab.specs.Slab.{get}
-use Rattle.bd_space.specs.References.{held_in, strong_in}
-use Rattle.bd_records.specs.declared.row.ObjectRow.{ObjectRow}
-use Rattle.bd_records.specs.Count.{of_strength}
-use Rattle.bd_records.specs.Counting.{total_of, is_to}
-use Rattle.bd_records.specs.{Slots.{on_slot}, Objects.{row_at}}
-use Rattle.bd_records.proofs.Coming.{object_of}
-use Rattle.bd_records.proofs.Holding.{not_empty, held_counts, strong_counts}
-use Rattle.bd_records.proofs.Naming.{shown_is}
+use Rattle.bd_records.proofs.Words.{IfSome, None, ObjectRow, Some, ap, count_by, false, get, held_in, is_to, nat_lt, not, of_strength, on_slot, option_map, row_at, strong_in, subst, sym, total_of, true, ◌∙◌, ◌≡◌}
+use Rattle.bd_records.proofs.{Coming.{object_of}, Holding.{held_counts, not_empty, strong_counts}, Naming.{shown_is}}
 use Rattle.bd_records.proofs.records.Records.kept.Goals as goal
 
 pub returns-in_err-slot-clause-object : goal.returns-in_err-slot-clause-object

@@ -1,7 +1,4 @@
-use Rattle.std.proofs.Common.{◌≡◌, ◌≤◌, Bool, true, false, refl, sym, ap, ◌∙◌, subst, arith}
-use Rattle.std.specs.Prelude.{option_map}
-use Rattle.bd_records.specs.{Count.{no_count, of_strength}, Counting.{total_of, owed_of, managed_of, asked_of, carried_of}, Records.{is_owner}}
-use Rattle.bd_records.specs.Since.{AreBlank}
+use Rattle.bd_records.proofs.Words.{AreBlank, Bool, ap, arith, asked_of, carried_of, false, is_owner, managed_of, no_count, of_strength, option_map, owed_of, refl, subst, sym, total_of, true, ◌∙◌, ◌≡◌, ◌≤◌}
 use Rattle.bd_records.proofs.Coming.{object_of}
 use Rattle.bd_records.proofs.records.Records.new.Goals as goal
 

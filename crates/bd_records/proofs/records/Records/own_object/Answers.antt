@@ -1,11 +1,5 @@
-use Rattle.std.proofs.Common.{◌==◌, ◌∙◌, ap, sym}
-use Rattle.std.specs.Prelude.{option_map}
-use Rattle.bd_space.specs.declared.space.Object.{Object}
-use Rattle.bd_space.specs.Words.{same}
-use Rattle.bd_records.specs.ObjectKeys.{id_key, kept}
-use Rattle.bd_space.proofs.Identities.{same_eq, same_self}
-use Rattle.bd_records.proofs.Found.{found_and}
-use Rattle.bd_records.proofs.Coming.{object_of}
+use Rattle.bd_records.proofs.Words.{Object, ap, id_key, kept, option_map, same, same_eq, same_self, sym, ◌==◌, ◌∙◌}
+use Rattle.bd_records.proofs.{Coming.{object_of}, Found.{found_and}}
 use Rattle.bd_records.proofs.records.Records.own_object.Goals as goal
 
 pub returns : goal.returns

@@ -1,8 +1,4 @@
-use Rattle.std.proofs.Common.{◌==◌, ◌∙◌, ap, sym}
-use Rattle.bd_space.specs.declared.space.Object.{Object}
-use Rattle.bd_keys.specs.Keys.{same_word}
-use Rattle.bd_keys.proofs.Keys.{word_eq, word_self}
-use Rattle.bd_records.specs.ObjectKeys.{own_key, kept}
+use Rattle.bd_records.proofs.Words.{Object, ap, kept, own_key, same_word, sym, word_eq, word_self, ◌==◌, ◌∙◌}
 use Rattle.bd_records.proofs.Found.{found_and}
 use Rattle.bd_records.proofs.records.Records.own_with.Goals as goal
 

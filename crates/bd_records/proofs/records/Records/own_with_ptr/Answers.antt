@@ -1,8 +1,5 @@
-use Rattle.std.proofs.Common.{◌∙◌, sym, ap}
-use Rattle.std.specs.Prelude.{option_map}
-use Rattle.bd_keys.specs.declared.key.WordKey.{WordKey}
-use Rattle.bd_records.proofs.Changes.{by_own}
-use Rattle.bd_records.proofs.Coming.{object_of}
+use Rattle.bd_records.proofs.Words.{WordKey, ap, option_map, sym, ◌∙◌}
+use Rattle.bd_records.proofs.{Changes.{by_own}, Coming.{object_of}}
 use Rattle.bd_records.proofs.records.Records.own_with_ptr.Goals as goal
 
 pub returns-in-Some : goal.returns-in-Some

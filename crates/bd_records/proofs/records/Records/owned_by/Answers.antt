@@ -1,4 +1,4 @@
-use Rattle.std.proofs.lemmas.Result.{on_ok_weaker, on_err_weaker}
+use Rattle.bd_records.proofs.Words.{on_err_weaker, on_ok_weaker}
 use Rattle.bd_records.proofs.records.Records.owned_by.Goals as goal
 
 pub returns-clause-pushed : goal.returns-clause-pushed

@@ -1,31 +1,14 @@
-use Rattle.std.proofs.Common.{refl, ◌≡◌, false, find, Some, is_some, sym, ap, ◌∙◌, subst, arith}
-use Rattle.std.specs.List.{list_any}
-use Rattle.bd_ways.specs.Words.{Reference, without_first}
-use Rattle.bd_space.specs.References.{is_of_buffer}
-use Rattle.bd_records.specs.{Objects.{row_at}, Names.{name_at}, Counted.{CountsAre}}
-use Rattle.bd_records.proofs.Tallies.{counts_less, count_first, on}
-use Rattle.bd_records.proofs.Lists.{first_shorter, none_first, found_some}
-use Rattle.bd_records.proofs.Holding.{objects_same, owners_same}
-use Rattle.bd_records.proofs.Named.{names_kept}
-use Rattle.bd_records.proofs.Given.{settled_kept}
+use Rattle.bd_records.proofs.Words.{CountsAre, Reference, Some, ap, arith, false, find, is_of_buffer, is_some, list_any, name_at, refl, row_at, subst, sym, without_first, ◌∙◌, ◌≡◌}
+use Rattle.bd_records.proofs.{Given.{settled_kept}, Lists.{first_shorter, found_some, none_first}, Tallies.{count_first, on, turned_stands}}
 use Rattle.bd_records.proofs.records.Records.pop_held.Goals as goal
 
 pub returns-in-Some-clause-stands : goal.returns-in-Some-clause-stands
 returns-in-Some-clause-stands c = λ objects l h.
-    let t = c.args.self.now in
     let test = (λ (x : Reference). is_of_buffer c.args.b x.holder) in
-    let r = c.in-Some.r in
-    let m = without_first test l in
-    let found : find test l ≡ Some r = sym (c.pop.ensures.first l h.held) ∙ c.in-Some.is in
-    record {
-      objects_are = λ o. h.objects_are o ∙ sym (objects_same (row_at t.objects) (row_at c.turn.new.objects) false r c.turn.ensures.objects o);
-      owners = λ p o. h.owners p o ∙ sym (owners_same (row_at t.objects) (row_at c.turn.new.objects) false r c.turn.ensures.objects p o);
-      own = h.own;
-      counts = counts_less (row_at t.objects) (row_at c.turn.new.objects) (name_at t.names) (name_at c.turn.new.names) objects l m r h.counts
-          (λ g. count_first test (on g) l r found) c.turn.ensures.objects c.turn.ensures.names;
-      held = c.pop.ensures.stands l h.held;
-      few = (let n = first_shorter test l in let a = h.few in omega (arith, n, a));
-    }
+    let found : find test l ≡ Some c.in-Some.r = sym (c.pop.ensures.first l h.held) ∙ c.in-Some.is in
+    let n = first_shorter test l in
+    turned_stands false c.args.self.now _ objects l (without_first test l) c.in-Some.r h (λ e. absurd cc) (λ g. count_first test (on g) l c.in-Some.r found) c.turn.ensures.objects c.turn.ensures.names refl
+    (c.pop.ensures.stands l h.held) (omega (arith, n, h.few))
 
 pub returns-in-Some-clause-any : goal.returns-in-Some-clause-any
 returns-in-Some-clause-any c = λ objects l h.
@@ -52,8 +35,5 @@ returns-in-None-clause-stands c = λ objects l h.
       few = (let n = first_shorter test l in let a = h.few in omega (arith, n, a));
     }
 
-pub returns-in-Some-clause-names : goal.returns-in-Some-clause-names
-returns-in-Some-clause-names c = names_kept c.args.self.now.names c.turn.new.names c.turn.ensures.named c.turn.ensures.numbers
-
 pub returns-in-Some-clause-settled : goal.returns-in-Some-clause-settled
-returns-in-Some-clause-settled c = settled_kept c.args.self.now _ (names_kept c.args.self.now.names c.turn.new.names c.turn.ensures.named c.turn.ensures.numbers) refl
+returns-in-Some-clause-settled c = settled_kept c.args.self.now _ c.turn.ensures.kept refl

@@ -1,33 +1,16 @@
-use Rattle.std.proofs.Common.{refl, ◌<◌, true, [], ◌∷◌, ◌++◌, ◌-◌, length, sym, ◌∙◌, arith}
-use Rattle.std.specs.Prelude.{vec_len, vec_capacity}
-use Rattle.bd_space.proofs.Identities.{same_eq}
-use Rattle.bd_records.specs.{Objects.{row_at, object_room}, Names.{name_at, name_room}, Owned.{own_room}, Buffers.{buffer_room}}
-use Rattle.bd_records.proofs.Tallies.{counts_more, count_push, on}
-use Rattle.bd_records.proofs.Lists.{length_more}
-use Rattle.bd_records.proofs.Holding.{objects_same, owners_same}
-use Rattle.bd_records.proofs.Named.{names_kept}
-use Rattle.bd_records.proofs.Given.{settled_kept, less_stays, one_fewer}
+use Rattle.bd_records.proofs.Words.{[], arith, buffer_room, length, name_room, object_room, own_room, refl, true, vec_capacity, vec_len, ◌++◌, ◌-◌, ◌<◌, ◌∷◌}
+use Rattle.bd_records.proofs.{Given.{less_stays, one_fewer, settled_kept}, Lists.{length_more}, Tallies.{count_push, on, turned_stands}}
 use Rattle.bd_records.proofs.records.Records.push.Goals as goal
 
 pub returns-clause-stands : goal.returns-clause-stands
 returns-clause-stands c = λ objects l homed h.
-    let t = c.args.self.now in
+    let r = c.args.r in
     let few : length l < 18446744073709551615 = (let room = c.requires in omega (arith, h.few, room)) in
-    record {
-      objects_are = λ o. h.objects_are o ∙ sym (objects_same (row_at t.objects) (row_at c.turn.new.objects) true c.args.r c.turn.ensures.objects o);
-      owners = λ p o. h.owners p o ∙ sym (owners_same (row_at t.objects) (row_at c.turn.new.objects) true c.args.r c.turn.ensures.objects p o);
-      own = h.own;
-      counts = counts_more (row_at t.objects) (row_at c.turn.new.objects) (name_at t.names) (name_at c.turn.new.names) objects l (l ++ c.args.r ∷ []) c.args.r h.counts few
-          (λ g. count_push (on g) l c.args.r) homed.here homed.named homed.others c.turn.ensures.objects c.turn.ensures.names same_eq;
-      held = c.push.ensures.stands l h.held;
-      few = (let n = length_more (λ x. true) l c.args.r in let a = h.few in let s = c.saturating_add-self.ensures in grind (arith, n, a, s, few));
-    }
-
-pub returns-clause-names : goal.returns-clause-names
-returns-clause-names c = names_kept c.args.self.now.names c.turn.new.names c.turn.ensures.named c.turn.ensures.numbers
+    turned_stands true c.args.self.now _ objects l (l ++ r ∷ []) r h (λ e. (few, homed)) (λ g. count_push (on g) l r) c.turn.ensures.objects c.turn.ensures.names refl
+    (c.push.ensures.stands l h.held) (let n = length_more (λ x. true) l r in let a = h.few in let s = c.saturating_add-self.ensures in grind (arith, n, a, s, few))
 
 pub returns-clause-settled : goal.returns-clause-settled
-returns-clause-settled c = settled_kept c.args.self.now _ (names_kept c.args.self.now.names c.turn.new.names c.turn.ensures.named c.turn.ensures.numbers) refl
+returns-clause-settled c = settled_kept c.args.self.now _ c.turn.ensures.kept refl
 
 pub returns-clause-uses : goal.returns-clause-uses
 returns-clause-uses c =

@@ -1,8 +1,4 @@
-use Rattle.std.proofs.Common.{◌≡◌, ℕ, ◌+◌, ◌<◌, List, [], ◌∷◌, ◌++◌, length, get_or, take, drop, sym, ap, ◌∙◌, subst, append_assoc, arith}
-use Rattle.std.proofs.lemmas.List.{take_more, take_all, drop_more}
-use Rattle.bd_space.specs.declared.space.Object.{Object}
-use Rattle.bd_records.specs.New.{IsNewIn, AreNewIn}
-use Rattle.bd_records.specs.Records.{RecordsAre}
+use Rattle.bd_records.proofs.Words.{AreNewIn, IsNewIn, List, Object, RecordsAre, [], ap, append_assoc, arith, drop, drop_more, get_or, length, subst, sym, take, take_all, take_more, ℕ, ◌++◌, ◌+◌, ◌<◌, ◌∙◌, ◌∷◌, ◌≡◌}
 use Rattle.bd_records.proofs.records.Records.push_all.Goals as goal
 
 -- the next of objects that are new comes

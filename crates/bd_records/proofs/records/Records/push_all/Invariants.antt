@@ -1,7 +1,4 @@
-use Rattle.std.proofs.Common.{◌++◌, List, take, drop}
-use Rattle.bd_space.specs.declared.space.{Object.{Object}, Reference.{Reference}}
-use Rattle.bd_records.specs.New.{AreNewIn}
-use Rattle.bd_records.specs.{Records.{RecordsAre}, Room.{Uses}, Since.{KeepsSettled}}
+use Rattle.bd_records.proofs.Words.{AreNewIn, KeepsSettled, List, Object, RecordsAre, Reference, Uses, drop, take, ◌++◌}
 use Rattle.bd_records.proofs.records.Records.push_all.Given as goal
 
 abbrev pub invariant-loop-x : goal.invariant-loop-x

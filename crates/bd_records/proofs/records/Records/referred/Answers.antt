@@ -1,7 +1,4 @@
-use Rattle.std.proofs.Common.{◌++◌, map, List, ap, ◌∙◌}
-use Rattle.std.proofs.lemmas.Result.{on_ok_weaker, on_err_weaker}
-use Rattle.bd_space.specs.declared.space.Reference.{Reference}
-use Rattle.bd_space.specs.References.{is_of_buffer}
+use Rattle.bd_records.proofs.Words.{List, Reference, ap, is_of_buffer, map, on_err_weaker, on_ok_weaker, ◌++◌, ◌∙◌}
 use Rattle.bd_records.proofs.Dropping.{nil_of_references, none_passes, not_false}
 use Rattle.bd_records.proofs.records.Records.referred.Goals as goal
 

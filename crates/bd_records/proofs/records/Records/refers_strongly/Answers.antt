@@ -1,9 +1,5 @@
-use Rattle.std.proofs.Common.{◌≡◌, nat_lt, true, false, ◌||◌, sym, ap, ◌∙◌, count_by, arith}
-use Rattle.std.proofs.lemmas.Bool.Decides.{nat_tests}
-use Rattle.bd_space.specs.References.{is_asking}
-use Rattle.bd_records.specs.Count.{of_strength}
-use Rattle.bd_records.specs.Counting.{asked_of, carried_of, is_carrying}
-use Rattle.bd_records.proofs.Holding.{strongly_counts, or_true, or_false}
+use Rattle.bd_records.proofs.Words.{ap, arith, asked_of, carried_of, count_by, false, is_asking, is_carrying, nat_lt, nat_tests, of_strength, sym, true, ◌||◌, ◌∙◌, ◌≡◌}
+use Rattle.bd_records.proofs.Holding.{or_false, or_true, strongly_counts}
 use Rattle.bd_records.proofs.records.Records.refers_strongly.Goals as goal
 
 pub returns-then-w-gt0 : goal.returns-then-w-gt0

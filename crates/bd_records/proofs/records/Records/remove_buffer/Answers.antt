@@ -1,6 +1,5 @@
-use Rattle.std.proofs.Common.{refl, arith}
-use Rattle.bd_space.specs.References.{is_of_buffer}
-use Rattle.bd_records.proofs.{Lists.{none_left}, Given.{settled_kept}}
+use Rattle.bd_records.proofs.Words.{arith, is_of_buffer, refl}
+use Rattle.bd_records.proofs.{Given.{settled_kept}, Lists.{none_left}}
 use Rattle.bd_records.proofs.records.Records.remove_buffer.Goals as goal
 
 pub returns-clause-settled : goal.returns-clause-settled

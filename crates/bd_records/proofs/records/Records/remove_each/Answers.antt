@@ -1,10 +1,5 @@
-use Rattle.std.proofs.Common.{◌≡◌, true, false, length, filter, sym, ap, ◌∙◌, subst, arith}
-use Rattle.std.specs.List.{list_any}
-use Rattle.bd_ways.specs.Words.{Reference}
-use Rattle.bd_space.specs.References.{is_of_buffer}
-use Rattle.bd_records.specs.{Buffers.{is_held}, Records.{RecordsAre}}
-use Rattle.bd_records.proofs.Lists.{none_first, found_is, rest_same, nothing_goes, first_less, any_empty, any_kept, first_kept, find_kept}
-use Rattle.bd_records.proofs.{Buffering.{of_held}, Given.{uses_nothing}}
+use Rattle.bd_records.proofs.Words.{RecordsAre, Reference, ap, arith, false, filter, is_held, is_of_buffer, length, list_any, subst, sym, true, ◌∙◌, ◌≡◌}
+use Rattle.bd_records.proofs.{Buffering.{of_held}, Given.{uses_nothing}, Lists.{any_empty, any_kept, find_kept, first_kept, first_less, found_is, none_first, nothing_goes, rest_same}}
 use Rattle.bd_records.proofs.records.Records.remove_each.Goals as goal
 
 pub loop-preserved : goal.loop-preserved

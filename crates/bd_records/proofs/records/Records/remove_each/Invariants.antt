@@ -1,7 +1,4 @@
-use Rattle.std.proofs.Common.{◌≡◌, ◌≤◌, ◌+◌, not, List, length, filter}
-use Rattle.bd_ways.specs.Words.{Object, Reference}
-use Rattle.bd_space.specs.References.{is_of_buffer}
-use Rattle.bd_records.specs.{Buffers.{is_held}, Records.{RecordsAre}, NamesAre.{KeepsNames}, Since.{KeepsSettled}, Room.{Uses}}
+use Rattle.bd_records.proofs.Words.{KeepsNames, KeepsSettled, List, Object, RecordsAre, Reference, Uses, filter, is_held, is_of_buffer, length, not, ◌+◌, ◌≡◌, ◌≤◌}
 use Rattle.bd_records.proofs.records.Records.remove_each.Given as goal
 
 abbrev pub invariant-loop : goal.invariant-loop

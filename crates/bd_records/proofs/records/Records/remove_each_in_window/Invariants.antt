@@ -1,8 +1,4 @@
-use Rattle.std.proofs.Common.{◌≡◌, ◌≤◌, ◌+◌, ℕ, true, not, List, length, filter, None, ◌⊎◌}
-use Rattle.std.specs.List.{list_any}
-use Rattle.bd_ways.specs.Words.{Object, Reference}
-use Rattle.bd_space.specs.References.{is_in_window, is_of_buffer}
-use Rattle.bd_records.specs.{Buffers.{is_held, list_of}, Records.{RecordsAre}, NamesAre.{KeepsNames}, Since.{KeepsSettled}, Room.{Uses}}
+use Rattle.bd_records.proofs.Words.{KeepsNames, KeepsSettled, List, None, Object, RecordsAre, Reference, Uses, filter, is_held, is_in_window, is_of_buffer, length, list_any, list_of, not, true, ℕ, ◌+◌, ◌≡◌, ◌≤◌, ◌⊎◌}
 use Rattle.bd_records.proofs.records.Records.remove_each_in_window.Given as goal
 
 abbrev pub invariant-loop : goal.invariant-loop

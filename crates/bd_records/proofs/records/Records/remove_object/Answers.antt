@@ -1,11 +1,5 @@
-use Rattle.std.proofs.Common.{◌≡◌, None, Some, not, filter, sym, ap, ◌∙◌, subst}
-use Rattle.std.specs.Prelude.{option_map}
-use Rattle.bd_ways.specs.Words.{Object, same}
-use Rattle.bd_space.specs.References.{object_in}
-use Rattle.bd_records.specs.ObjectKeys.{id_key}
-use Rattle.bd_records.proofs.Distinct.{away_none}
-use Rattle.bd_records.specs.{Objects.{row_at}, Names.{name_at}, Owned.{OwnedAre}}
-use Rattle.bd_records.proofs.Coming.{object_of, went_objects, went_owners, went_counts}
+use Rattle.bd_records.proofs.Words.{None, Object, OwnedAre, Some, ap, filter, id_key, name_at, not, object_in, option_map, row_at, same, subst, sym, ◌∙◌, ◌≡◌}
+use Rattle.bd_records.proofs.{Coming.{object_of, went_counts, went_objects, went_owners}, Distinct.{away_none}}
 use Rattle.bd_records.proofs.records.Records.remove_object.Goals as goal
 
 pub returns-in-Some-clause-stands : goal.returns-in-Some-clause-stands

@@ -1,8 +1,5 @@
-use Rattle.std.proofs.Common.{◌==◌, ◌&&◌, not, map, filter, List, sym, ap, ◌∙◌, subst, arith}
-use Rattle.bd_ways.specs.Words.{Identity, Object, Reference}
-use Rattle.bd_space.specs.References.{owned_in, is_of_owner}
-use Rattle.bd_records.specs.{Objects.{row_at}, Names.{name_at}, Buffers.{is_held}, Counted.{CountsAre}, Ending.{own_among, without_own}}
-use Rattle.bd_records.proofs.{Buffering.{same_buffers}, Disowning.{kept_in_rest, rest_shorter}, Lists.{filter_alike}, Ending.{own_among_is, held_others}}
+use Rattle.bd_records.proofs.Words.{CountsAre, Identity, List, Object, Reference, ap, arith, filter, is_held, is_of_owner, map, name_at, not, own_among, owned_in, row_at, subst, sym, without_own, ◌&&◌, ◌==◌, ◌∙◌}
+use Rattle.bd_records.proofs.{Buffering.{same_buffers}, Disowning.{kept_in_rest, rest_shorter}, Ending.{held_others, own_among_is}, Lists.{filter_alike}}
 use Rattle.bd_records.proofs.records.Records.remove_of_owned.Goals as goal
 
 pub returns-clause-stands : goal.returns-clause-stands

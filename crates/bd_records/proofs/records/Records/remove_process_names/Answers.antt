@@ -1,6 +1,5 @@
-use Rattle.std.proofs.Common.{refl}
-use Rattle.bd_records.specs.{Names.{name_at}, Objects.{row_at}}
-use Rattle.bd_records.proofs.{Asked.{counts_ended}, Named.{ended}, Given.{settled_now}}
+use Rattle.bd_records.proofs.Words.{name_at, refl, row_at}
+use Rattle.bd_records.proofs.{Asked.{counts_ended}, Given.{settled_now}, Named.{ended}}
 use Rattle.bd_records.proofs.records.Records.remove_process_names.Goals as goal
 
 pub returns-clause-stands : goal.returns-clause-stands

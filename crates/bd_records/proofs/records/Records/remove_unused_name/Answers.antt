@@ -1,7 +1,5 @@
-use Rattle.std.proofs.Common.{◌≡◌, true, false, refl, sym, ap, ◌∙◌}
-use Rattle.bd_numbered.specs.Numbered.{value_at}
-use Rattle.bd_records.specs.{Slots.{on_slot}, Names.{name_at}, Objects.{row_at}}
-use Rattle.bd_records.proofs.{Asked.{counts_unnamed, unnamed_counts}, Given.{settled_now}, Named.{taken, none_taken}}
+use Rattle.bd_records.proofs.Words.{ap, false, name_at, on_slot, refl, row_at, sym, true, value_at, ◌∙◌, ◌≡◌}
+use Rattle.bd_records.proofs.{Asked.{counts_unnamed, unnamed_counts}, Given.{settled_now}, Named.{none_taken, taken}}
 use Rattle.bd_records.proofs.records.Records.remove_unused_name.Goals as goal
 
 pub remove_at-requires : goal.remove_at-requires

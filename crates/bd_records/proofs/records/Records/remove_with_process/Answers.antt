@@ -1,7 +1,5 @@
-use Rattle.std.proofs.Common.{◌≡◌, Bool, true, false, not, filter, ◌&&◌, ◌||◌, refl, subst, arith, ◌∙◌}
-use Rattle.bd_space.specs.References.{is_asked_by, is_in_window}
-use Rattle.bd_records.specs.Records.{RecordsAre}
-use Rattle.bd_records.proofs.{Lists.{both_filters, none_left}, Given.{settled_kept}, Emptied.{lies_unasked}}
+use Rattle.bd_records.proofs.Words.{Bool, RecordsAre, arith, false, filter, is_asked_by, is_in_window, not, refl, subst, true, ◌&&◌, ◌||◌, ◌∙◌, ◌≡◌}
+use Rattle.bd_records.proofs.{Emptied.{lies_unasked}, Given.{settled_kept}, Lists.{both_filters, none_left}}
 use Rattle.bd_records.proofs.records.Records.remove_with_process.Goals as goal
 
 neither : (a b : Bool) → (not a && not b) ≡ not (a || b)

@@ -1,7 +1,5 @@
-use Rattle.std.proofs.Common.{List, ◌++◌, sym, ap, subst, ◌∙◌}
-use Rattle.bd_ways.specs.Words.{Name}
-use Rattle.bd_records.specs.Since.{AreBlank}
-use Rattle.bd_records.proofs.{Named.{names_kept}, Given.{all_kept}}
+use Rattle.bd_records.proofs.Words.{AreBlank, List, Name, ap, subst, sym, ◌++◌, ◌∙◌}
+use Rattle.bd_records.proofs.{Given.{all_kept}, Named.{names_kept}}
 use Rattle.bd_records.proofs.records.Records.reserve_names.Goals as goal
 
 pub returns-in_err-reserve-clause-names : goal.returns-in_err-reserve-clause-names

@@ -1,7 +1,5 @@
-use Rattle.std.proofs.Common.{◌++◌, refl, sym, subst, arith}
-use Rattle.bd_records.proofs.GivenNames.{nil_of, all_back}
-use Rattle.bd_records.specs.{Names.{name_at}, Objects.{row_at}, NamesAre.{NamesAre}, Since.{AreBlank, Since}}
-use Rattle.bd_records.proofs.{Asked.{counts_unnamed}, Given.{all_gone, blank_last, blank_counts, last_of}}
+use Rattle.bd_records.proofs.Words.{AreBlank, NamesAre, Since, arith, name_at, number_of, refl, row_at, subst, sym, ◌++◌}
+use Rattle.bd_records.proofs.{Asked.{counts_unnamed}, Given.{all_gone, blank_counts, blank_last, last_of}, GivenNames.{all_back, nil_of}, Named.{gone}}
 use Rattle.bd_records.proofs.records.Records.roll_back_names.Goals as goal
 
 pub loop-m-init : goal.loop-m-init
@@ -23,8 +21,8 @@ loop-m-preserved c = record {
         objects_are = k.objects_are;
         owners = k.owners;
         own = k.own;
-        counts = counts_unnamed (row_at t.objects) (name_at t.names) (name_at c.remove_name.new.names) m.process m.object objects l k.counts
-            (blank_counts (row_at t.objects) (name_at t.names) objects l k.counts m.process m.object b.1) c.remove_name.ensures.rows;
+        counts = counts_unnamed (row_at t.objects) (name_at t.names) (name_at c.remove.new.self) m.process m.object objects l k.counts
+            (blank_counts (row_at t.objects) (name_at t.names) objects l k.counts m.process m.object b.1) c.remove.ensures.names;
         held = k.held;
         few = k.few;
       };
@@ -34,15 +32,15 @@ loop-m-preserved c = record {
       let s = c.loop-m.invariant.since base names given_since in
       let b = blank_last t.names c.pop.new.self.items m (subst (AreBlank t.names) c.in-Some.ensures.items s.blank) in
       record {
-        stands = subst (NamesAre c.remove_name.new.names) (last_of base t.given.items c.pop.new.self.items (base ++ t.given.items) m s.stands.sound refl c.in-Some.ensures.items)
-            (c.remove_name.ensures.stands (base ++ t.given.items) s.stands);
+        stands = subst (NamesAre c.remove.new.self) (last_of base t.given.items c.pop.new.self.items (base ++ t.given.items) m s.stands.sound refl c.in-Some.ensures.items)
+            (gone t.names c.remove.new.self m.process m.object (number_of t.names m.process m.object) refl c.remove.ensures.named c.remove.ensures.numbers (base ++ t.given.items) s.stands);
         grows = refl;
-        blank = all_gone t.names c.remove_name.new.names m.process m.object c.remove_name.ensures.rows c.pop.new.self.items b.0;
+        blank = all_gone t.names c.remove.new.self m.process m.object c.remove.ensures.names c.pop.new.self.items b.0;
       };
   uses = record {
     objects_fit = omega (arith, c.loop-m.invariant.uses.objects_fit);
     references_fit = omega (arith, c.loop-m.invariant.uses.references_fit);
-    names_fit = λ q. omega (arith, c.loop-m.invariant.uses.names_fit q, c.remove_name.ensures.uses q, c.in-Some.ensures.len, c.in-Some.ensures.capacity);
+    names_fit = λ q. omega (arith, c.loop-m.invariant.uses.names_fit q, c.remove.ensures.uses q, c.in-Some.ensures.len, c.in-Some.ensures.capacity);
   };
 }
 

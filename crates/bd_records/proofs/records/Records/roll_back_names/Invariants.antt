@@ -1,6 +1,4 @@
-use Rattle.std.proofs.Common.{List, ◌++◌, length}
-use Rattle.bd_ways.specs.Words.{Name, Object, Reference}
-use Rattle.bd_records.specs.{Records.{RecordsAre}, Since.{Since}, Room.{Uses}}
+use Rattle.bd_records.proofs.Words.{List, Name, Object, RecordsAre, Reference, Since, Uses, length, ◌++◌}
 use Rattle.bd_records.proofs.records.Records.roll_back_names.Given as goal
 
 abbrev pub invariant-loop-m : goal.invariant-loop-m

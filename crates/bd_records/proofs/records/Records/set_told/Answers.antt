@@ -1,5 +1,5 @@
-use Rattle.bd_records.specs.{Objects.{row_at}, Names.{name_at}}
-use Rattle.bd_records.proofs.Telling.{told_owned, told_objects, told_owners, told_counts}
+use Rattle.bd_records.proofs.Words.{name_at, row_at}
+use Rattle.bd_records.proofs.Telling.{told_counts, told_objects, told_owned, told_owners}
 use Rattle.bd_records.proofs.records.Records.set_told.Goals as goal
 
 pub returns-clause-stands : goal.returns-clause-stands
