@@ -1,28 +1,11 @@
 -- The table after a change.
-use Rattle.std.proofs.Common.{◌≡◌, ℕ, ◌==◌, ◌+◌, ◌<◌, ◌≤◌, ◌^◌, Bool, true, false, eqb-true, not, ◌&&◌, cond, List, [], ◌∷◌, ◌++◌, find, filter, map, length, Option, Some, None, refl, sym, ap, subst, ◌∙◌, arith, All}
-use Rattle.std.proofs.{lemmas.Bool.{eq-eqb, and_parts}, lemmas.List.{map-append}, lemmas.List.Elements.{All-filter, All-push}, lemmas.List.Kept.{AllPairs-filter}, lemmas.List.Quantifiers.{all_pairs_push}}
-use Rattle.std.specs.{Prelude.{option_map, AllPairs}}
-use Rattle.bd_ways.specs.Words.{DeathNotification}
-use Rattle.bd_space.specs.Deaths.{is_notification}
-use Rattle.bd_keys.proofs.{Rising.{Distinct, has, without, filter_none, pairs_tail}, Found.{none_found, found_passes}, Options.{none_mapped}}
-use Rattle.bd_chains.specs.Rows.{Row, drop_key, keys}
+use Rattle.bd_deaths.proofs.Words.{All, All-filter, All-push, AllPairs, AllPairs-filter, Apart, AreShared, Bool, DeathNotification, DeathTable, DeathsAre, Distinct, EntriesAre, Entry, Fits, Kept, List, Mark, NameKey, None, ObjectsShow, Option}
+use Rattle.bd_deaths.proofs.Words.{ProcessesShow, Row, Some, Uses, Watch, [], all_pairs_push, and_parts, ap, arith, asks_on, at_of, cond, death_count, death_of, death_room, drop_key, drop_none, eq-eqb, eqb-true, false, filter, filter_none, find}
+use Rattle.bd_deaths.proofs.Words.{found_passes, get_or, has, is_notification, is_some_and, is_uncleared_on, kept_at, kept_of, keys, length, lists_room, made_of, map, map-append, min, name_at, name_of, none_found, none_mapped, not, object_row}
+use Rattle.bd_deaths.proofs.Words.{option_map, pairs_tail, place_at, process_row, refl, rest_differ, same, same_eq, same_name, slab_len, spare, subst, sym, true, uncleared_in, without, word_room, ℕ, ◌&&◌, ◌++◌, ◌+◌, ◌-◌, ◌<◌, ◌==◌, ◌^◌, ◌∙◌, ◌∷◌}
+use Rattle.bd_deaths.proofs.Words.{◌≡◌, ◌≤◌}
+use Rattle.bd_deaths.proofs.{Indexed.{Once, found_once, shown_less, shown_more}, Sharing.{distinct_mapped}}
 use Rattle.bd_chains.specs.Chain as chain
-use Rattle.bd_chains.proofs.Rowing.{drop_none}
-use Rattle.bd_keys.proofs.Rising.{rest_differ}
-use Rattle.bd_deaths.specs.{declared.key.NameKey.{NameKey}, declared.kept.Kept.{Kept}, declared.kept.Watch.{Watch}, declared.kept.Mark.{Mark}, declared.table.DeathTable.{DeathTable}}
-use Rattle.bd_deaths.specs.Entries.{Entry, EntriesAre, Apart, Fits, ObjectsShow, ProcessesShow, death_of, made_of, at_of, kept_of, object_row, process_row, asks_on, kept_at, place_at, name_at}
-use Rattle.bd_keys.specs.Look.{word_room}
-use Rattle.bd_deaths.specs.{Stands.{DeathsAre}, Shared.{AreShared}}
-use Rattle.bd_space.specs.Deaths.{uncleared_in, is_uncleared_on}
-use Rattle.bd_deaths.specs.Entries.{name_of, same_name}
-use Rattle.std.specs.Prelude.{get_or, min, ◌-◌}
-use Rattle.std.specs.HashMap.{spare}
-use Rattle.slab.specs.Slab.{slab_len}
-use Rattle.bd_space.specs.Words.{same, is_some_and}
-use Rattle.bd_space.proofs.Identities.{same_eq}
-use Rattle.bd_deaths.specs.Room.{Uses, death_room, death_count}
-use Rattle.bd_chains.specs.Lists.{lists_room}
-use Rattle.bd_deaths.proofs.{Indexed.{Once, found_once, shown_more, shown_less}, Sharing.{distinct_mapped}}
 
 pub filter_map : {A B : Type 0} (f : A → B) (p : B → Bool) (xs : List A) → map f (filter (λ x. p (f x)) xs) ≡ filter p (map f xs)
 filter_map f p [] = refl

@@ -1,15 +1,7 @@
 -- A process's notifications go, one after the other.
-use Rattle.std.proofs.Common.{◌≡◌, ℕ, ◌==◌, ◌+◌, Bool, true, false, not, ◌||◌, cond, List, [], ◌∷◌, find, filter, map, length, Option, Some, None, refl, sym, ap, ◌∙◌, arith}
-use Rattle.std.proofs.lemmas.List.{length-map}
-use Rattle.std.specs.{Prelude.{option_map}, List.{list_any}}
-use Rattle.bd_ways.specs.Words.{DeathNotification}
-use Rattle.bd_space.specs.Deaths.{is_notification}
-use Rattle.bd_keys.proofs.{Rising.{Distinct, without, pairs_tail, rest_differ, filter_none}, Found.{found_has}, Options.{none_mapped}}
-use Rattle.bd_chains.specs.Rows.{Row, values}
-use Rattle.bd_deaths.specs.{declared.kept.Mark.{Mark}, declared.table.DeathTable.{DeathTable}}
-use Rattle.bd_deaths.specs.Entries.{Entry, death_of, made_of, mark_of, process_row, by_process}
-use Rattle.bd_deaths.specs.Stands.{DeathsAre}
-use Rattle.bd_deaths.proofs.Changes.{filter_map, find_map, by_place}
+use Rattle.bd_deaths.proofs.Words.{Bool, DeathNotification, DeathTable, DeathsAre, Distinct, Entry, List, Mark, None, Option, Row, Some, [], ap, arith, by_process, cond, death_of, false, filter, filter_none, find, found_has, is_notification, length}
+use Rattle.bd_deaths.proofs.Words.{length-map, list_any, made_of, map, mark_of, none_mapped, not, option_map, pairs_tail, process_row, refl, rest_differ, sym, true, values, without, ℕ, ◌+◌, ◌==◌, ◌||◌, ◌∙◌, ◌∷◌, ◌≡◌}
+use Rattle.bd_deaths.proofs.Changes.{by_place, filter_map, find_map}
 
 pub values_of : {A T : Type 0} (row : A → Row T) (xs : List A) → values (map row xs) ≡ map (λ x. (row x).held.value) xs
 values_of row [] = refl

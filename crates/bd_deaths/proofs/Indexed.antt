@@ -1,9 +1,6 @@
 -- What is found by a test that at most one passes, where one comes, goes, or changes.
-use Rattle.std.proofs.Common.{◌≡◌, ℕ, Bool, true, false, not, cond, List, [], ◌∷◌, ◌++◌, find, map, Some, None, refl, ap, sym, ◌∙◌, arith, All}
-use Rattle.std.specs.{Prelude.{option_map, AllPairs, get_or}}
-use Rattle.std.proofs.lemmas.Bool.{false_from_ne_true, eqb-true}
-use Rattle.std.proofs.lemmas.List.Elements.{All-head, All-tail}
-use Rattle.bd_keys.proofs.{Rising.{Distinct, has, without, pairs_head, pairs_tail, rest_differ, filter_none}, Found.{found_has}}
+use Rattle.bd_deaths.proofs.Words.{All, All-head, All-tail, AllPairs, Bool, Distinct, List, None, Some, [], ap, arith, cond, eqb-true, false, false_from_ne_true, filter_none, find, found_has, get_or, has, map, not, option_map, pairs_head, pairs_tail}
+use Rattle.bd_deaths.proofs.Words.{refl, rest_differ, sym, true, without, ℕ, ◌++◌, ◌∙◌, ◌∷◌, ◌≡◌}
 
 module _ {A : Type 0} (p : A → Bool) where
   abbrev Both : A → A → Type 0

@@ -9,3 +9,4 @@ pub mod Looking
 pub mod Numbering
 pub mod Only
 pub mod Telling
+mod Words

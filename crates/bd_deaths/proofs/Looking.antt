@@ -1,20 +1,8 @@
 -- What is found along a process's list, and what is kept of each.
-use Rattle.std.proofs.Common.{◌≡◌, ℕ, ◌==◌, Bool, true, false, cond, List, [], ◌∷◌, find, filter, map, Option, Some, None, refl, sym, ap, ◌∙◌, arith, All, eqb-true}
-use Rattle.std.specs.{Prelude.{option_map, get_or, count_by}}
-use Rattle.std.proofs.lemmas.Bool.{eq-eqb, ne_eqb}
-use Rattle.std.proofs.lemmas.List.Elements.{All-head, All-tail, All-cons}
-use Rattle.bd_space.specs.Deaths.{is_told_with}
-use Rattle.bd_keys.proofs.{Rising.{Distinct, has, pairs_head, pairs_tail}, Lists.{eqb_turned}}
-use Rattle.bd_chains.specs.Rows.{values_on, on_some}
-use Rattle.bd_chains.proofs.Listing.{on_list}
-use Rattle.bd_deaths.specs.declared.{kept.Mark.{Mark}, table.DeathTable.{DeathTable}}
-use Rattle.bd_deaths.specs.Entries.{Entry, EntriesAre, death_of, at_of, kept_of, mark_of, process_row, by_process, same_process, process_number, kept_at, is_told_in, first_at}
-use Rattle.bd_ways.specs.Words.{DeathNotification}
-use Rattle.bd_space.specs.Words.{is_some_and}
-use Rattle.bd_keys.proofs.Found.{found_passes}
-use Rattle.bd_keys.specs.declared.key.WordKey.{WordKey}
-use Rattle.bd_deaths.specs.{Stands.{DeathsAre}, Shared.{told_at}}
-use Rattle.bd_deaths.proofs.{Ending.{values_of}, Changes.{by_slot}, Sharing.{told_with, only_counted}, Only.{count_map}}
+use Rattle.bd_deaths.proofs.Words.{All, All-cons, All-head, All-tail, Bool, DeathNotification, DeathTable, DeathsAre, Distinct, EntriesAre, Entry, List, Mark, None, Option, Some, WordKey, [], ap, arith, at_of, by_process, cond, count_by, death_of}
+use Rattle.bd_deaths.proofs.Words.{eq-eqb, eqb-true, eqb_turned, false, filter, find, first_at, found_passes, get_or, has, is_some_and, is_told_in, is_told_with, kept_at, kept_of, map, mark_of, ne_eqb, on_list, on_some, option_map, pairs_head}
+use Rattle.bd_deaths.proofs.Words.{pairs_tail, process_number, process_row, refl, same_process, sym, told_at, true, values_on, ℕ, ◌==◌, ◌∙◌, ◌∷◌, ◌≡◌}
+use Rattle.bd_deaths.proofs.{Changes.{by_slot}, Ending.{values_of}, Only.{count_map}, Sharing.{only_counted, told_with}}
 
 -- each is found by its slot
 self_found : (es : List Entry) → Distinct at_of es → All (λ e. find (has at_of (at_of e)) es ≡ Some e) es

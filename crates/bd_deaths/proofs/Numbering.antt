@@ -1,21 +1,10 @@
 -- Those that are due, by their numbers.
-use Rattle.std.proofs.Common.{◌≡◌, ℕ, zero, suc, ◌==◌, ◌+◌, ◌*◌, ◌⊎◌, ◌<◌, ◌%◌, ◌^◌, ◌||◌, Bool, true, false, not, ◌&&◌, cond, List, [], ◌∷◌, ◌++◌, filter, map, length, Some, None, is_some, refl, sym, ap, subst, ◌∙◌, arith, All, eqb-true, inl, inr, get_or}
-use Rattle.std.specs.{Prelude.{AllPairs}, List.{list_any}}
-use Rattle.std.proofs.lemmas.Bool.{eq-eqb, ne_eqb, or_cases, or_left, or_right, and_parts}
-use Rattle.std.proofs.lemmas.List.Elements.{All-head, All-tail, All-map, All-filter}
-use Rattle.std.proofs.lemmas.List.Kept.{AllPairs-cons, Contains-dedup_nat, Contains-from_dedup}
-use Rattle.std.specs.List.{Contains, dedup}
-use Rattle.std.proofs.Common.{eqb}
-use Rattle.std.proofs.lemmas.List.Folds.{list_any-append}
-use Rattle.bd_ways.specs.Words.{Identity, Object}
-use Rattle.bd_ways.specs.Local.{is_among}
-use Rattle.bd_space.specs.{Words.{same, is_some_and}, References.{owned_in}, ProcessExits.{is_armed}}
-use Rattle.bd_space.proofs.Identities.{same_turned, same_eq}
-use Rattle.bd_keys.proofs.Rising.{pairs_head, pairs_tail}
-use Rattle.bd_deaths.specs.declared.{kept.Watch.{Watch}, table.DeathTable.{DeathTable}}
-use Rattle.bd_deaths.specs.Entries.{Entry, EntriesAre, Apart, Fits, death_of, at_of, watch_of, by_object, same_object, kept_at}
-use Rattle.bd_deaths.specs.{Due.{is_due}, Numbers.{number_of, is_for_another, has, is_at, is_any_at, is_due_entry, is_due_number, due_numbers, deaths_at}}
-use Rattle.bd_deaths.proofs.{Queueing.{owned_among}, Looking.{all_kept}}
+use Rattle.bd_deaths.proofs.Words.{All, All-filter, All-head, All-map, All-tail, AllPairs, AllPairs-cons, Apart, Bool, Contains, Contains-dedup_nat, Contains-from_dedup, DeathTable, EntriesAre, Entry, Fits, Identity, List, None, Object, Some, Watch}
+use Rattle.bd_deaths.proofs.Words.{[], and_parts, ap, arith, at_of, by_object, cond, death_of, deaths_at, dedup, due_numbers, eq-eqb, eqb, eqb-true, false, filter, get_or, inl, inr, is_among, is_any_at, is_armed, is_at, is_due, is_due_entry}
+use Rattle.bd_deaths.proofs.Words.{is_due_number, is_for_another, is_some, is_some_and, kept_at, length, list_any, list_any-append, map, ne_eqb, not, number_of, or_cases, or_left, or_right, owned_in, pairs_head, pairs_tail, refl, same, same_eq}
+use Rattle.bd_deaths.proofs.Words.{same_object, same_turned, subst, suc, sym, true, watch_of, zero, ℕ, ◌%◌, ◌&&◌, ◌*◌, ◌++◌, ◌+◌, ◌<◌, ◌==◌, ◌^◌, ◌||◌, ◌∙◌, ◌∷◌, ◌≡◌, ◌⊎◌}
+use Rattle.bd_deaths.proofs.{Looking.{all_kept}, Queueing.{owned_among}}
+use Rattle.bd_deaths.specs.Numbers.{has}
 
 abbrev pub number : Entry → ℕ
 number e = number_of e.kept e.at

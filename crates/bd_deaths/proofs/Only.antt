@@ -1,15 +1,8 @@
 -- The one uncleared notification on a name.
-use Rattle.std.proofs.Common.{◌≡◌, ℕ, ◌==◌, ◌+◌, Bool, true, false, not, ◌&&◌, ◌||◌, cond, List, [], ◌∷◌, find, filter, map, Option, Some, None, refl, sym, ap, ◌∙◌, arith, All}
-use Rattle.std.specs.{Prelude.{option_map, count_by, get_or}}
-use Rattle.std.proofs.lemmas.Bool.{eq-eqb, false_from_ne_true}
-use Rattle.std.proofs.lemmas.List.Elements.{All-head, All-tail, All-cons}
-use Rattle.bd_ways.specs.Words.{DeathNotification, Identity}
-use Rattle.bd_space.specs.{Deaths.{is_uncleared_on, uncleared_in, is_notification}}
-use Rattle.bd_ways.specs.Local.{at_name}
-use Rattle.bd_keys.proofs.{Rising.{pairs_head, pairs_tail}, Found.{found_passes, none_found}}
-use Rattle.bd_deaths.specs.{declared.key.NameKey.{NameKey}, declared.table.DeathTable.{DeathTable}, Only.{only_uncleared_in}, Stands.{DeathsAre}}
-use Rattle.bd_deaths.specs.Entries.{Entry, death_of, made_of, asks_on}
-use Rattle.bd_deaths.proofs.{Sharing.{count_cons}, Indexed.{Once, found_once, later_off}, Changes.{filter_map, find_map, find_same, asks_uncleared, once_place, once_name}}
+use Rattle.bd_deaths.proofs.Words.{All, All-cons, All-head, All-tail, Bool, DeathNotification, DeathTable, DeathsAre, Entry, Identity, List, NameKey, None, Option, Some, [], ap, arith, asks_on, at_name, cond, count_by, death_of, eq-eqb, false}
+use Rattle.bd_deaths.proofs.Words.{false_from_ne_true, filter, find, found_passes, get_or, is_notification, is_uncleared_on, made_of, map, none_found, not, only_uncleared_in, option_map, pairs_head, pairs_tail, refl, sym, true, uncleared_in, ℕ, ◌&&◌}
+use Rattle.bd_deaths.proofs.Words.{◌+◌, ◌==◌, ◌||◌, ◌∙◌, ◌∷◌, ◌≡◌}
+use Rattle.bd_deaths.proofs.{Changes.{asks_uncleared, filter_map, find_map, find_same, once_name, once_place}, Indexed.{Once, found_once, later_off}, Sharing.{count_cons}}
 
 module _ {A : Type 0} where
   -- two tests that at most one passes, and of which both find the same one

@@ -1,30 +1,9 @@
 -- Those on some objects are queued.
-use Rattle.std.proofs.Common.{◌≡◌, ℕ, ◌==◌, ◌||◌, Bool, true, false, ◌&&◌, cond, List, [], ◌∷◌, ◌++◌, find, filter, map, Option, Some, None, refl, sym, ap, subst, ◌∙◌, arith}
-use Rattle.std.specs.{Prelude.{option_map}, List.{list_any}}
-use Rattle.std.proofs.lemmas.List.Folds.{list_any-append}
-use Rattle.std.proofs.Math.Bool.{and-false, and-true, or-false}
-use Rattle.std.specs.Prelude.{All, get_or}
-use Rattle.std.proofs.lemmas.List.Elements.{All-head, All-tail, All-cons}
-use Rattle.std.proofs.lemmas.Bool.{eq-eqb, ne_eqb}
-use Rattle.bd_keys.proofs.{Lists.{eqb_turned}, Rising.{AllOthers, pairs_head}}
-use Rattle.std.proofs.lemmas.Bool.{eqb-true}
-use Rattle.bd_keys.proofs.Rising.{find_none}
-use Rattle.bd_ways.specs.Words.{Identity, Object, DeathNotification, Queued, changed}
-use Rattle.bd_ways.specs.Local.{is_among}
-use Rattle.bd_space.specs.{Words.{same}, References.{owned_in}, ProcessExits.{is_armed}}
-use Rattle.bd_space.proofs.Identities.{same_eq, same_turned}
-use Rattle.bd_keys.specs.declared.key.WordKey.{WordKey}
-use Rattle.bd_ways.specs.Words.{Phase}
-use Rattle.bd_space.specs.declared.space.Phase.TheVariants.{Armed, Told, Done}
-use Rattle.bd_space.specs.Deaths.{is_told}
-use Rattle.bd_deaths.specs.Shared.{is_told_of, has_cookie}
-use Rattle.bd_keys.proofs.{Rising.{Distinct, has, pairs_tail, rest_differ}}
-use Rattle.bd_chains.specs.Rows.{values_on, on_some}
-use Rattle.bd_chains.proofs.Listing.{on_list}
-use Rattle.bd_deaths.specs.declared.{kept.Kept.{Kept}, kept.Watch.{Watch}, table.DeathTable.{DeathTable}}
-use Rattle.bd_deaths.specs.Entries.{Entry, EntriesAre, death_of, made_of, at_of, kept_of, watch_of, object_row, by_object, same_object, object_number, kept_at}
-use Rattle.bd_deaths.specs.{Changes.{queued, in_phase}, Due.{is_due, is_due_at, is_queued_in, is_armed_on, queued_on}, Stands.{DeathsAre}}
-use Rattle.bd_deaths.proofs.{Ending.{values_of}, Changes.{by_slot, by_place}, Turning.{partly}, Tests.{same_tests}}
+use Rattle.bd_deaths.proofs.Words.{All, All-cons, All-head, All-tail, AllOthers, Armed, Bool, DeathNotification, DeathTable, DeathsAre, Distinct, Done, EntriesAre, Entry, Identity, Kept, List, None, Object, Option, Phase, Queued, Some, Told, Watch}
+use Rattle.bd_deaths.proofs.Words.{WordKey, [], and-false, and-true, ap, arith, at_of, by_object, changed, cond, death_of, eq-eqb, eqb-true, eqb_turned, false, filter, find, find_none, get_or, has, has_cookie, in_phase, is_among, is_armed}
+use Rattle.bd_deaths.proofs.Words.{is_armed_on, is_due, is_due_at, is_queued_in, is_told, is_told_of, kept_at, kept_of, list_any, list_any-append, made_of, map, ne_eqb, object_number, object_row, on_list, on_some, option_map, or-false, owned_in}
+use Rattle.bd_deaths.proofs.Words.{pairs_head, pairs_tail, queued, queued_on, refl, rest_differ, same, same_eq, same_object, same_turned, subst, sym, true, values_on, watch_of, ℕ, ◌&&◌, ◌++◌, ◌==◌, ◌||◌, ◌∙◌, ◌∷◌, ◌≡◌}
+use Rattle.bd_deaths.proofs.{Changes.{by_place, by_slot}, Ending.{values_of}, Tests.{same_tests}, Turning.{partly}}
 
 -- what was queued is queued again
 pub again : (o : Option Kept) (a b : Bool) → cond b (option_map queued (cond a (option_map queued o) o)) (cond a (option_map queued o) o) ≡ cond (a || (b || false)) (option_map queued o) o

@@ -1,17 +1,7 @@
 -- How many pass a test, and how many have a cookie, where one comes, goes or changes.
-use Rattle.std.proofs.Common.{◌≡◌, ℕ, ◌==◌, ◌+◌, ◌-◌, ◌<◌, ◌≤◌, Bool, true, false, not, ◌&&◌, cond, List, [], ◌∷◌, ◌++◌, find, filter, map, length, Option, Some, None, refl, sym, ap, subst, ◌∙◌, arith, eqb-true}
-use Rattle.std.specs.{Prelude.{option_map, count_by, AllPairs}}
-use Rattle.std.proofs.lemmas.List.Sums.{sum_by-cons, sum_by_push, count_by-le-length}
-use Rattle.std.proofs.lemmas.List.Elements.{All-map}
-use Rattle.std.proofs.lemmas.List.Kept.{AllPairs-cons}
-use Rattle.bd_ways.specs.Words.{DeathNotification, Phase, changed}
-use Rattle.bd_space.specs.Deaths.{is_told, is_told_with, is_notification}
-use Rattle.bd_space.proofs.Keyed.{changed_none}
-use Rattle.bd_keys.specs.declared.{key.WordKey.{WordKey}, map.WordMap.{WordMap}}
-use Rattle.bd_keys.specs.{Keys.{same_word}, Look.{look}}
-use Rattle.bd_keys.proofs.{Keys.{word_eq, word_self}, Rising.{Distinct, has, without, pairs_head, pairs_tail, rest_differ, filter_none}}
-use Rattle.bd_deaths.specs.declared.sharers.Sharers.{Sharers}
-use Rattle.bd_deaths.specs.Shared.{AreShared, AreKept, cookie_of, has_cookie, is_told_of, one_if, count_of, told_of, count_at, told_at}
+use Rattle.bd_deaths.proofs.Words.{All-map, AllPairs, AllPairs-cons, AreKept, AreShared, Bool, DeathNotification, Distinct, List, None, Option, Phase, Sharers, Some, WordKey, WordMap, [], ap, arith, changed, changed_none, cond, cookie_of, count_at}
+use Rattle.bd_deaths.proofs.Words.{count_by, count_by-le-length, count_of, eqb-true, false, filter, filter_none, find, has, has_cookie, is_notification, is_told, is_told_of, is_told_with, length, look, map, not, one_if, option_map, pairs_head}
+use Rattle.bd_deaths.proofs.Words.{pairs_tail, refl, rest_differ, same_word, subst, sum_by-cons, sum_by_push, sym, told_at, told_of, true, without, word_eq, word_self, ℕ, ◌&&◌, ◌++◌, ◌+◌, ◌-◌, ◌<◌, ◌==◌, ◌∙◌, ◌∷◌, ◌≡◌, ◌≤◌}
 
 module _ {A : Type 0} where
   pub count_cons : (q : A → Bool) (x : A) (xs : List A) (b : Bool) → q x ≡ b → count_by q (x ∷ xs) ≡ cond b 1 0 + count_by q xs

@@ -1,13 +1,6 @@
 -- Notifications that are told, one after the other.
-use Rattle.std.proofs.Common.{◌≡◌, ℕ, ◌&&◌, cond, List, ◌∷◌, refl, ap, ◌∙◌, Bool}
-use Rattle.std.specs.List.{list_any}
-use Rattle.bd_space.specs.declared.space.Object.{Object}
-use Rattle.bd_space.specs.declared.space.DeathNotification.{DeathNotification}
-use Rattle.bd_space.specs.declared.space.Phase.TheVariants.{Queued}
-use Rattle.bd_space.specs.Words.{changed}
-use Rattle.bd_space.specs.Deaths.{is_notification}
-use Rattle.bd_deaths.specs.Due.{is_due, is_due_at}
-use Rattle.bd_deaths.proofs.Tests.{twice, guarded}
+use Rattle.bd_deaths.proofs.Words.{Bool, DeathNotification, List, Object, Queued, ap, changed, cond, is_due, is_due_at, is_notification, list_any, refl, ℕ, ◌&&◌, ◌∙◌, ◌∷◌, ◌≡◌}
+use Rattle.bd_deaths.proofs.Tests.{guarded, twice}
 
 module _ (objects : List Object) (p : ℕ) where
   abbrev pub queued : DeathNotification → DeathNotification

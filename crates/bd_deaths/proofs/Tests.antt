@@ -1,6 +1,5 @@
 -- Changes of the elements that pass a test, one after the other.
-use Rattle.std.proofs.Common.{◌≡◌, Bool, true, false, cond, ◌||◌, ◌&&◌, List, [], ◌∷◌, refl, ap, sym}
-use Rattle.bd_space.specs.Words.{changed}
+use Rattle.bd_deaths.proofs.Words.{Bool, List, [], ap, changed, cond, false, refl, sym, true, ◌&&◌, ◌||◌, ◌∷◌, ◌≡◌}
 
 module _ {A : Type 0} (f : A → A) where
   pub none : (p : A → Bool) (xs : List A) → ((x : A) → p x ≡ false) → changed p f xs ≡ xs

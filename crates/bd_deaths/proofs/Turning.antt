@@ -1,24 +1,8 @@
 -- The table after what is kept of some has changed.
-use Rattle.std.proofs.Common.{◌≡◌, ℕ, ◌==◌, ◌<◌, Bool, true, false, not, ◌&&◌, cond, List, [], ◌∷◌, find, filter, map, length, Option, Some, None, refl, sym, ap, subst, ◌∙◌, arith}
-use Rattle.std.proofs.{lemmas.List.{length-map, get_or-map}, lemmas.List.Elements.{All-map}}
-use Rattle.std.specs.{Prelude.{option_map, AllPairs, get_or}}
-use Rattle.bd_ways.specs.Words.{DeathNotification, changed}
-use Rattle.bd_keys.proofs.{Rising.{has}, Found.{found_passes}}
-use Rattle.bd_chains.specs.Rows.{Row}
-use Rattle.bd_deaths.specs.{declared.key.NameKey.{NameKey}, declared.kept.Kept.{Kept}, declared.kept.Watch.{Watch}, declared.kept.Mark.{Mark}, declared.table.DeathTable.{DeathTable}}
-use Rattle.bd_deaths.specs.Entries.{Entry, Apart, Fits, ObjectsShow, ProcessesShow, death_of, made_of, at_of, kept_of, object_row, process_row, asks_on, kept_at, place_at, name_at}
-use Rattle.bd_keys.specs.declared.map.WordMap.{WordMap}
-use Rattle.bd_deaths.specs.declared.sharers.Sharers.{Sharers}
-use Rattle.bd_deaths.specs.{Stands.{DeathsAre}, Shared.{AreShared}}
-use Rattle.slab.specs.Slab.{Slab, get}
-use Rattle.bd_ways.specs.Words.{Phase}
-use Rattle.bd_space.specs.Deaths.{is_notification}
-use Rattle.bd_space.proofs.Keyed.{changed_none}
-use Rattle.bd_deaths.specs.Changes.{in_phase, with_cleared}
-use Rattle.bd_keys.proofs.Found.{none_found}
-use Rattle.bd_deaths.proofs.Changes.{Found, found, none_there}
-use Rattle.std.proofs.lemmas.Bool.{and_parts}
-use Rattle.bd_deaths.proofs.{Sharing.{shared_same}, Indexed.{found_turned, found_once, shown_less}, Changes.{find_map, find_same, by_place, once_slot, once_place, once_name}}
+use Rattle.bd_deaths.proofs.Words.{All-map, AllPairs, Apart, AreShared, Bool, DeathNotification, DeathTable, DeathsAre, Entry, Fits, Kept, List, Mark, NameKey, None, ObjectsShow, Option, Phase, ProcessesShow, Row, Sharers, Slab, Some, Watch, WordMap}
+use Rattle.bd_deaths.proofs.Words.{[], and_parts, ap, arith, asks_on, at_of, changed, changed_none, cond, death_of, false, filter, find, found_passes, get, get_or, get_or-map, has, in_phase, is_notification, kept_at, kept_of, length, length-map}
+use Rattle.bd_deaths.proofs.Words.{made_of, map, name_at, none_found, not, object_row, option_map, place_at, process_row, refl, subst, sym, true, with_cleared, ℕ, ◌&&◌, ◌<◌, ◌==◌, ◌∙◌, ◌∷◌, ◌≡◌}
+use Rattle.bd_deaths.proofs.{Changes.{Found, by_place, find_map, find_same, found, none_there, once_name, once_place, once_slot}, Indexed.{found_once, found_turned, shown_less}, Sharing.{shared_same}}
 
 pub record Keeps (F : Kept → Kept) (k : Kept) : Type 0 where
   pub made : (F k).death.made ≡ k.death.made

@@ -1,10 +1,4 @@
-use Rattle.std.proofs.Common.{◌≡◌, ◌==◌, cond, [], ◌∷◌, refl, sym, ap, subst, ◌∙◌}
-use Rattle.std.specs.{Prelude.{option_map}, List.{list_any}}
-use Rattle.std.proofs.lemmas.List.{map-id}
-use Rattle.std.proofs.lemmas.List.Folds.{list_any-append}
-use Rattle.std.proofs.lemmas.Iterator.Consumers.{YieldsList-at, YieldsList-from_first, YieldsList-end}
-use Rattle.slab.specs.Slab.{get}
-use Rattle.bd_deaths.specs.{Changes.{queued}}
+use Rattle.bd_deaths.proofs.Words.{YieldsList-at, YieldsList-end, YieldsList-from_first, [], ap, cond, get, list_any, list_any-append, map-id, option_map, queued, refl, subst, sym, ◌==◌, ◌∙◌, ◌∷◌, ◌≡◌}
 use Rattle.bd_deaths.proofs.Queueing.{again}
 use Rattle.bd_deaths.proofs.phase.queue_each.Goals as goal
 

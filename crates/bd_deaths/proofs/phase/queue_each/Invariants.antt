@@ -1,7 +1,4 @@
-use Rattle.std.proofs.Common.{◌≡◌, ◌==◌, ℕ, cond}
-use Rattle.std.specs.{Prelude.{option_map}, List.{list_any}}
-use Rattle.slab.specs.Slab.{get, slab_len}
-use Rattle.bd_deaths.specs.Changes.{queued}
+use Rattle.bd_deaths.proofs.Words.{cond, get, list_any, option_map, queued, slab_len, ℕ, ◌==◌, ◌≡◌}
 use Rattle.bd_deaths.proofs.phase.queue_each.Given as goal
 
 abbrev pub invariant-loop-w : goal.invariant-loop-w

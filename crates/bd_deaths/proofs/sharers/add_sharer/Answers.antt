@@ -1,8 +1,5 @@
-use Rattle.std.proofs.Common.{◌+◌, Some, arith}
-use Rattle.bd_deaths.specs.declared.sharers.Sharers.{Sharers}
-use Rattle.bd_deaths.specs.Shared.{cookie_of, told_of, one_if}
-use Rattle.bd_space.specs.Deaths.{is_told}
-use Rattle.bd_deaths.proofs.Sharing.{put_at, put_more, put_kept}
+use Rattle.bd_deaths.proofs.Words.{Sharers, Some, arith, cookie_of, is_told, one_if, told_of, ◌+◌}
+use Rattle.bd_deaths.proofs.Sharing.{put_at, put_kept, put_more}
 use Rattle.bd_deaths.proofs.sharers.add_sharer.Goals as goal
 
 pub returns-clause-counted : goal.returns-clause-counted

@@ -1,5 +1,4 @@
-use Rattle.std.proofs.Common.{sym, ◌∙◌, arith}
-use Rattle.bd_space.specs.Deaths.{is_notification}
+use Rattle.bd_deaths.proofs.Words.{arith, is_notification, sym, ◌∙◌}
 use Rattle.bd_deaths.proofs.Changes.{death_found, death_none}
 use Rattle.bd_deaths.proofs.table.DeathTable.death.Goals as goal
 

@@ -1,5 +1,4 @@
-use Rattle.std.proofs.Common.{◌++◌, ap}
-use Rattle.bd_deaths.specs.Numbers.{deaths_at}
+use Rattle.bd_deaths.proofs.Words.{ap, deaths_at, ◌++◌}
 use Rattle.bd_deaths.proofs.table.DeathTable.deaths_of.Goals as goal
 
 pub loop-n-init : goal.loop-n-init

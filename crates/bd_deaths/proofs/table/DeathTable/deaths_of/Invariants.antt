@@ -1,5 +1,4 @@
-use Rattle.std.proofs.Common.{◌≡◌, ◌++◌, drop}
-use Rattle.bd_deaths.specs.Numbers.{deaths_at}
+use Rattle.bd_deaths.proofs.Words.{deaths_at, drop, ◌++◌, ◌≡◌}
 use Rattle.bd_deaths.proofs.table.DeathTable.deaths_of.Given as goal
 
 abbrev pub invariant-loop-n : goal.invariant-loop-n

@@ -1,7 +1,4 @@
-use Rattle.std.proofs.Common.{◌≡◌, ◌<◌, ◌==◌, true, length, not, ◌&&◌, filter, ap, subst, ◌∙◌}
-use Rattle.std.specs.List.{list_any}
-use Rattle.std.proofs.lemmas.Result.{err_from_is_err_and}
-use Rattle.bd_deaths.specs.{Due.{is_due}, Entries.{death_of}, Numbers.{deaths_at, is_due_entry}}
+use Rattle.bd_deaths.proofs.Words.{ap, death_of, deaths_at, err_from_is_err_and, filter, is_due, is_due_entry, length, list_any, not, subst, true, ◌&&◌, ◌<◌, ◌==◌, ◌∙◌, ◌≡◌}
 use Rattle.bd_deaths.proofs.{Changes.{filter_map}, Looking.{all_kept}, Numbering.{deaths_numbered, some_number}}
 use Rattle.bd_deaths.proofs.table.DeathTable.due.Goals as goal
 

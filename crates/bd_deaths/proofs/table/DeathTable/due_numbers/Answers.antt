@@ -1,13 +1,6 @@
-use Rattle.std.specs.List.{list_any}
-use Rattle.std.proofs.Common.{◌||◌, eqb, sym, ap, subst, ◌∙◌}
-use Rattle.std.specs.List.Sorted.{IsStrictlyIncreasing}
-use Rattle.std.proofs.lemmas.List.Filters.{dedup_is}
-use Rattle.std.proofs.lemmas.List.Kept.{AllPairs-from_increasing}
-use Rattle.std.proofs.lemmas.List.Sorted.{list_any-IsPermutation}
-use Rattle.std.proofs.lemmas.Map.Keys.{IsStrictlyIncreasing-dedup}
-use Rattle.std.specs.Prelude.{◌==◌}
-use Rattle.bd_deaths.specs.Numbers.{has, is_due_entry, is_due_number, due_numbers}
-use Rattle.bd_deaths.proofs.Numbering.{same_risen, numbers_rise, has_any, has_once}
+use Rattle.bd_deaths.proofs.Words.{AllPairs-from_increasing, IsStrictlyIncreasing, IsStrictlyIncreasing-dedup, ap, dedup_is, due_numbers, eqb, is_due_entry, is_due_number, list_any, list_any-IsPermutation, subst, sym, ◌==◌, ◌||◌, ◌∙◌}
+use Rattle.bd_deaths.proofs.Numbering.{has_any, has_once, numbers_rise, same_risen}
+use Rattle.bd_deaths.specs.Numbers.{has}
 use Rattle.bd_deaths.proofs.table.DeathTable.due_numbers.Goals as goal
 
 pub returns-clause-are : goal.returns-clause-are

@@ -1,5 +1,4 @@
-use Rattle.std.proofs.Common.{◌≡◌}
-use Rattle.bd_deaths.specs.Entries.{first_at, is_told_in}
+use Rattle.bd_deaths.proofs.Words.{first_at, is_told_in, ◌≡◌}
 use Rattle.bd_deaths.proofs.table.DeathTable.first_told.Given as goal
 
 abbrev pub invariant-loop-m : goal.invariant-loop-m

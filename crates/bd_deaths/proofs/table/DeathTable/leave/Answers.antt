@@ -1,7 +1,4 @@
-use Rattle.std.proofs.Common.{false, refl}
-use Rattle.bd_chains.specs.Rows.{drop_key}
-use Rattle.bd_chains.proofs.Listing.{dropped_shows}
-use Rattle.bd_deaths.specs.Entries.{by_object, by_process, same_object, same_process, object_number, process_number}
+use Rattle.bd_deaths.proofs.Words.{by_object, by_process, drop_key, dropped_shows, false, object_number, process_number, refl, same_object, same_process}
 use Rattle.bd_deaths.proofs.table.DeathTable.leave.Goals as goal
 
 pub returns-clause-objects : goal.returns-clause-objects

@@ -1,5 +1,4 @@
-use Rattle.std.proofs.Common.{true, refl, sym, arith, subst, ◌∙◌}
-use Rattle.bd_deaths.specs.{Stands.{DeathsAre}}
+use Rattle.bd_deaths.proofs.Words.{DeathsAre, arith, refl, subst, sym, true, ◌∙◌}
 use Rattle.bd_deaths.proofs.{Changes.{nothing_kept, uses_less}, Turning.{cleared_turned, nothing_changes}}
 use Rattle.bd_deaths.proofs.table.DeathTable.mark_cleared.Goals as goal
 

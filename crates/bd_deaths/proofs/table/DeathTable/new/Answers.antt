@@ -1,5 +1,4 @@
-use Rattle.std.proofs.Common.{[], false, refl, ap, arith}
-use Rattle.bd_deaths.specs.{Entries.{by_object, by_process}, Shared.{count_of, told_of}}
+use Rattle.bd_deaths.proofs.Words.{[], ap, arith, by_object, by_process, count_of, false, refl, told_of}
 use Rattle.bd_deaths.proofs.table.DeathTable.new.Goals as goal
 
 pub returns : goal.returns

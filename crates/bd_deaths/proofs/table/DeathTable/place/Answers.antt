@@ -1,4 +1,4 @@
-use Rattle.std.proofs.Common.{sym, ◌∙◌}
+use Rattle.bd_deaths.proofs.Words.{sym, ◌∙◌}
 use Rattle.bd_deaths.proofs.Changes.{guessed}
 use Rattle.bd_deaths.proofs.table.DeathTable.place.Goals as goal
 

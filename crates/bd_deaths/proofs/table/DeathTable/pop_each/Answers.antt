@@ -1,7 +1,5 @@
-use Rattle.std.proofs.{Common.{false, ◌∙◌, sym, ap, map, length, subst, arith}, lemmas.List.{length-map}}
-use Rattle.bd_keys.proofs.Tables.{uses_then}
-use Rattle.bd_deaths.specs.{Entries.{by_process, process_row, death_of}, Stands.{DeathsAre}}
-use Rattle.bd_deaths.proofs.Ending.{popped, emptied, none_left}
+use Rattle.bd_deaths.proofs.Words.{DeathsAre, ap, arith, by_process, death_of, false, length, length-map, map, process_row, subst, sym, uses_then, ◌∙◌}
+use Rattle.bd_deaths.proofs.Ending.{emptied, none_left, popped}
 use Rattle.bd_deaths.proofs.table.DeathTable.pop_each.Goals as goal
 
 pub loop-preserved : goal.loop-preserved

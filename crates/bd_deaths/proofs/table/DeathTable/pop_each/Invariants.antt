@@ -1,6 +1,4 @@
-use Rattle.std.proofs.Common.{◌≡◌, ◌==◌, ◌≤◌, ◌+◌, not, List, length, filter}
-use Rattle.bd_ways.specs.Words.{DeathNotification}
-use Rattle.bd_deaths.specs.{Room.{Uses}, Stands.{DeathsAre}}
+use Rattle.bd_deaths.proofs.Words.{DeathNotification, DeathsAre, List, Uses, filter, length, not, ◌+◌, ◌==◌, ◌≡◌, ◌≤◌}
 use Rattle.bd_deaths.proofs.table.DeathTable.pop_each.Given as goal
 
 abbrev pub invariant-loop : goal.invariant-loop

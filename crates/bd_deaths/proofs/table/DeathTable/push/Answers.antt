@@ -1,14 +1,6 @@
-use Rattle.std.proofs.Common.{◌≡◌, ℕ, ◌+◌, ◌-◌, ◌≤◌, ◌==◌, Bool, true, false, cond, rules, Some, refl, sym, ap, ◌∙◌, arith, eqb-true}
-use Rattle.std.proofs.lemmas.Bool.{eqb-false}
-use Rattle.std.specs.{Prelude.{min, Option}, HashMap.{spare}}
-use Rattle.slab.specs.Slab.{Slab, Updates, get, slab_len}
-use Rattle.bd_chains.specs.Lists.{lists_room}
-use Rattle.bd_deaths.specs.{Room.{death_room, death_count}, Entries.{by_object, by_process, same_name, name_at}}
-use Rattle.std.proofs.Common.{map, length}
-use Rattle.std.proofs.lemmas.List.{length-map}
-use Rattle.bd_keys.specs.Look.{word_room}
-use Rattle.bd_deaths.specs.Entries.{object_row, death_of}
-use Rattle.bd_deaths.proofs.{Sharing.{shared_more}, Changes.{deaths_pushed}}
+use Rattle.bd_deaths.proofs.Words.{Bool, Option, Slab, Some, Updates, ap, arith, by_object, by_process, cond, death_count, death_of, death_room, eqb-false, eqb-true, false, get, length, length-map, lists_room, map, min, name_at, object_row, refl}
+use Rattle.bd_deaths.proofs.Words.{rules, same_name, slab_len, spare, sym, true, word_room, ℕ, ◌+◌, ◌-◌, ◌==◌, ◌∙◌, ◌≡◌, ◌≤◌}
+use Rattle.bd_deaths.proofs.{Changes.{deaths_pushed}, Sharing.{shared_more}}
 use Rattle.bd_deaths.proofs.table.DeathTable.push.Goals as goal
 
 updated : {T : Type 0} (s u : Slab T) (at key : ℕ) (o : Option T) → at ≡ key → Updates s u key o → (k : ℕ) → get u k ≡ cond (at == k) o (get s k)

@@ -1,6 +1,5 @@
-use Rattle.std.proofs.Common.{◌≡◌, ◌||◌, ℕ, true}
-use Rattle.std.specs.List.{list_any}
-use Rattle.bd_deaths.specs.Numbers.{has, is_at, is_any_at}
+use Rattle.bd_deaths.proofs.Words.{is_any_at, is_at, list_any, true, ℕ, ◌||◌, ◌≡◌}
+use Rattle.bd_deaths.specs.Numbers.{has}
 use Rattle.bd_deaths.proofs.table.DeathTable.push_armed.Given as goal
 
 abbrev pub invariant-loop-w : goal.invariant-loop-w

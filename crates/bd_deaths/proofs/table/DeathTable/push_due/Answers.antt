@@ -1,17 +1,7 @@
-use Rattle.std.proofs.Common.{◌≡◌, ◌||◌, Bool, true, false, List, ◌∷◌, Option, Some, None, map, refl, ap, sym, subst, ◌∙◌}
-use Rattle.std.specs.List.{list_any}
-use Rattle.std.specs.Iterator.{YieldsFirst}
-use Rattle.std.proofs.lemmas.Bool.{eq-eqb, or_left, or_right}
-use Rattle.bd_ways.specs.{Words.{Identity}, Local.{is_among}}
-use Rattle.bd_space.specs.Words.{same}
-use Rattle.std.proofs.lemmas.List.{map-id}
-use Rattle.std.proofs.lemmas.Result.{err_from_is_err_and}
-use Rattle.std.proofs.lemmas.Iterator.Consumers.{YieldsList-at, YieldsList-from_first, YieldsList-end}
-use Rattle.std.proofs.Math.Bool.{or-false}
-use Rattle.bd_deaths.specs.Entries.{object_row}
-use Rattle.bd_deaths.specs.Numbers.{has, is_at, is_any_at}
-use Rattle.bd_deaths.specs.Due.{is_due}
-use Rattle.bd_deaths.proofs.{Queueing.{watches_are}, Numbering.{numbers_on, some_on, none_found, more_found, due_found, some_due, is_found}}
+use Rattle.bd_deaths.proofs.Words.{Bool, Identity, List, None, Option, Some, YieldsFirst, YieldsList-at, YieldsList-end, YieldsList-from_first, ap, eq-eqb, err_from_is_err_and, false, is_among, is_any_at, is_at, is_due, list_any, map, map-id}
+use Rattle.bd_deaths.proofs.Words.{object_row, or-false, or_left, or_right, refl, same, subst, sym, true, ◌||◌, ◌∙◌, ◌∷◌, ◌≡◌}
+use Rattle.bd_deaths.proofs.{Numbering.{due_found, is_found, more_found, none_found, numbers_on, some_due, some_on}, Queueing.{watches_are}}
+use Rattle.bd_deaths.specs.Numbers.{has}
 use Rattle.bd_deaths.proofs.table.DeathTable.push_due.Goals as goal
 
 pub loop-o-init : goal.loop-o-init

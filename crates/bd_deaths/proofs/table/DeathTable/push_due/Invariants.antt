@@ -1,9 +1,6 @@
-use Rattle.std.proofs.Common.{◌≡◌, ◌||◌, ℕ, List, true}
-use Rattle.std.specs.List.{list_any}
-use Rattle.bd_ways.specs.{Words.{Identity}, Local.{is_among}}
-use Rattle.bd_deaths.specs.Entries.{Entry, EntriesAre}
-use Rattle.bd_deaths.specs.Numbers.{has}
+use Rattle.bd_deaths.proofs.Words.{EntriesAre, Entry, Identity, List, is_among, list_any, true, ℕ, ◌||◌, ◌≡◌}
 use Rattle.bd_deaths.proofs.Numbering.{is_found}
+use Rattle.bd_deaths.specs.Numbers.{has}
 use Rattle.bd_deaths.proofs.table.DeathTable.push_due.Given as goal
 
 abbrev pub invariant-loop-o : goal.invariant-loop-o

@@ -1,9 +1,5 @@
-use Rattle.std.proofs.Common.{refl, ap, sym, subst, ◌∙◌}
-use Rattle.std.proofs.lemmas.List.{map-id}
-use Rattle.std.proofs.lemmas.Iterator.Consumers.{YieldsList-at, YieldsList-from_first, YieldsList-end}
-use Rattle.bd_keys.proofs.Tables.{uses_none, uses_then}
-use Rattle.bd_deaths.specs.{Due.{queued_on}, Stands.{DeathsAre}}
-use Rattle.bd_deaths.proofs.Queueing.{none_queued, more_queued, all_queued}
+use Rattle.bd_deaths.proofs.Words.{DeathsAre, YieldsList-at, YieldsList-end, YieldsList-from_first, ap, map-id, queued_on, refl, subst, sym, uses_none, uses_then, ◌∙◌}
+use Rattle.bd_deaths.proofs.Queueing.{all_queued, more_queued, none_queued}
 use Rattle.bd_deaths.proofs.table.DeathTable.queue_due.Goals as goal
 
 pub loop-o-init : goal.loop-o-init

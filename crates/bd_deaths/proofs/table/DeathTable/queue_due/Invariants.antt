@@ -1,6 +1,4 @@
-use Rattle.std.proofs.Common.{List}
-use Rattle.bd_ways.specs.Words.{DeathNotification}
-use Rattle.bd_deaths.specs.{Room.{Uses}, Due.{queued_on}, Stands.{DeathsAre}}
+use Rattle.bd_deaths.proofs.Words.{DeathNotification, DeathsAre, List, Uses, queued_on}
 use Rattle.bd_deaths.proofs.table.DeathTable.queue_due.Given as goal
 
 abbrev pub invariant-loop-o : goal.invariant-loop-o

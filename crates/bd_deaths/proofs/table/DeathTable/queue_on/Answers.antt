@@ -1,10 +1,5 @@
-use Rattle.std.proofs.Common.{◌∷◌, [], map, refl, sym, ◌∙◌}
-use Rattle.bd_ways.specs.Words.{Queued}
-use Rattle.bd_deaths.specs.{Due.{is_armed_on}, Entries.{object_row}}
-use Rattle.std.proofs.lemmas.Bool.{and_parts}
-use Rattle.bd_space.specs.ProcessExits.{is_armed}
-use Rattle.bd_ways.specs.Local.{is_among}
-use Rattle.bd_deaths.proofs.{Sharing.{shared_same}, Turning.{phases_turned}, Queueing.{queued_there, queued_untold}}
+use Rattle.bd_deaths.proofs.Words.{Queued, [], and_parts, is_among, is_armed, is_armed_on, map, object_row, refl, sym, ◌∙◌, ◌∷◌}
+use Rattle.bd_deaths.proofs.{Queueing.{queued_there, queued_untold}, Sharing.{shared_same}, Turning.{phases_turned}}
 use Rattle.bd_deaths.proofs.table.DeathTable.queue_on.Goals as goal
 
 pub returns-clause-stands : goal.returns-clause-stands

@@ -1,16 +1,7 @@
-use Rattle.std.proofs.Common.{◌≡◌, ℕ, ◌+◌, ◌<◌, ◌||◌, List, take, length, get_or, false, refl, sym, subst, ◌∙◌, arith}
-use Rattle.std.specs.Prelude.{◌==◌}
-use Rattle.std.proofs.lemmas.List.{take_all}
-use Rattle.std.proofs.lemmas.List.Folds.{list_any_more}
-use Rattle.bd_space.specs.Words.{changed, is_some_and}
-use Rattle.bd_space.specs.Todo.{death_of}
-use Rattle.bd_space.specs.ReadItems.{is_told_of_death}
-use Rattle.bd_space.specs.declared.space.Work.{Work}
-use Rattle.bd_space.specs.declared.space.DeathNotification.{DeathNotification}
-use Rattle.bd_space.specs.declared.space.Phase.TheVariants.{Told}
-use Rattle.bd_deaths.specs.Stands.{DeathsAre}
+use Rattle.bd_deaths.proofs.Words.{DeathNotification, DeathsAre, List, Told, Work, arith, changed, false, get_or, is_some_and, is_told_of_death, length, list_any_more, refl, subst, sym, take, take_all, uses_none, uses_then, ℕ, ◌+◌, ◌<◌, ◌==◌, ◌||◌}
+use Rattle.bd_deaths.proofs.Words.{◌∙◌, ◌≡◌}
 use Rattle.bd_deaths.proofs.Tests.{none, same_tests, twice}
-use Rattle.bd_keys.proofs.Tables.{uses_none, uses_then}
+use Rattle.bd_space.specs.Todo.{death_of}
 use Rattle.bd_deaths.proofs.table.DeathTable.read.Goals as goal
 
 pub loop-w-init : goal.loop-w-init

@@ -1,11 +1,5 @@
-use Rattle.std.proofs.Common.{◌==◌, false, refl, sym, subst, ◌∙◌}
-use Rattle.bd_space.specs.Deaths.{is_notification}
-use Rattle.bd_space.specs.declared.space.DeathNotification.{DeathNotification}
-use Rattle.bd_space.specs.declared.space.Phase.TheVariants.{Told}
-use Rattle.bd_space.specs.Words.{changed, is_some_and}
-use Rattle.bd_deaths.specs.Stands.{DeathsAre}
+use Rattle.bd_deaths.proofs.Words.{DeathNotification, DeathsAre, Told, changed, eqb_turned, false, is_notification, is_some_and, refl, subst, sym, ◌==◌, ◌∙◌}
 use Rattle.bd_deaths.proofs.Tests.{none, same_tests}
-use Rattle.bd_keys.proofs.Lists.{eqb_turned}
 use Rattle.bd_deaths.proofs.table.DeathTable.read_one.Goals as goal
 
 pub returns-in-None-clause-stands : goal.returns-in-None-clause-stands

@@ -1,13 +1,5 @@
-use Rattle.std.specs.HashMap.{get_by}
-use Rattle.slab.specs.Slab.{get}
-use Rattle.std.specs.Prelude.{option_map}
-use Rattle.std.proofs.Common.{not, filter, ◌≡◌, ◌==◌, Bool, true, false, cond, Option, None, eqb-true, ℕ, refl, sym, ap, subst, ◌∙◌, arith}
-use Rattle.bd_deaths.specs.{Entries.{place_at}, Stands.{DeathsAre}}
-use Rattle.bd_deaths.specs.declared.table.DeathTable.{DeathTable}
-use Rattle.bd_ways.specs.Words.{DeathNotification}
-use Rattle.bd_space.specs.Deaths.{is_notification}
-use Rattle.bd_deaths.specs.Shared.{AreShared}
-use Rattle.bd_deaths.proofs.{Sharing.{count_less, shared_less}, Changes.{uses_less, deaths_removed, none_goes, nothing_kept, deaths_kept, made_apart, made_there}}
+use Rattle.bd_deaths.proofs.Words.{AreShared, Bool, DeathNotification, DeathTable, DeathsAre, None, Option, ap, arith, cond, eqb-true, false, filter, get, get_by, is_notification, not, option_map, place_at, refl, subst, sym, true, ℕ, ◌==◌, ◌∙◌, ◌≡◌}
+use Rattle.bd_deaths.proofs.{Changes.{deaths_kept, deaths_removed, made_apart, made_there, none_goes, nothing_kept, uses_less}, Sharing.{count_less, shared_less}}
 use Rattle.bd_deaths.proofs.table.DeathTable.remove.Goals as goal
 
 pub returns-in-Some-take_slot-clause-stands : goal.returns-in-Some-take_slot-clause-stands

@@ -1,8 +1,4 @@
-use Rattle.std.proofs.Common.{false, map, refl, ap, ◌∙◌, arith}
-use Rattle.std.specs.List.{list_any}
-use Rattle.std.specs.Prelude.{◌==◌}
-use Rattle.bd_keys.proofs.Tables.{uses_then}
-use Rattle.bd_deaths.specs.Entries.{by_process, process_row}
+use Rattle.bd_deaths.proofs.Words.{ap, arith, by_process, false, list_any, map, process_row, refl, uses_then, ◌==◌, ◌∙◌}
 use Rattle.bd_deaths.proofs.{Changes.{deaths_kept, uses_less}, Ending.{marks_to, none_owned}}
 use Rattle.bd_deaths.proofs.table.DeathTable.remove_process.Goals as goal
 

@@ -1,6 +1,5 @@
-use Rattle.std.proofs.Common.{false, refl, arith}
-use Rattle.bd_deaths.specs.Entries.{by_object, by_process}
-use Rattle.bd_deaths.proofs.{Sharing.{shared_kept}, Changes.{deaths_kept, uses_less}}
+use Rattle.bd_deaths.proofs.Words.{arith, by_object, by_process, false, refl}
+use Rattle.bd_deaths.proofs.{Changes.{deaths_kept, uses_less}, Sharing.{shared_kept}}
 use Rattle.bd_deaths.proofs.table.DeathTable.reserve.Goals as goal
 
 pub returns-clause-stands : goal.returns-clause-stands

@@ -1,8 +1,5 @@
-use Rattle.std.proofs.Common.{not, filter, refl, sym, subst, ◌∙◌, arith}
-use Rattle.bd_space.specs.Deaths.{is_notification}
-use Rattle.bd_ways.specs.Words.{DeathNotification, changed}
-use Rattle.bd_deaths.specs.{Changes.{in_phase}, Stands.{DeathsAre}}
-use Rattle.bd_deaths.proofs.{Sharing.{count_less, count_turned, shared_turned}, Changes.{made_apart, made_there, nothing_kept, uses_less}, Turning.{phases_turned, one_turned, nothing_changes}}
+use Rattle.bd_deaths.proofs.Words.{DeathNotification, DeathsAre, arith, changed, filter, in_phase, is_notification, not, refl, subst, sym, ◌∙◌}
+use Rattle.bd_deaths.proofs.{Changes.{made_apart, made_there, nothing_kept, uses_less}, Sharing.{count_less, count_turned, shared_turned}, Turning.{nothing_changes, one_turned, phases_turned}}
 use Rattle.bd_deaths.proofs.table.DeathTable.set_phase.Goals as goal
 
 pub returns-in-Some-in_slot-clause-stands : goal.returns-in-Some-in_slot-clause-stands

@@ -1,7 +1,5 @@
-use Rattle.std.proofs.Common.{map, sym, ap, ◌∙◌}
-use Rattle.std.specs.Prelude.{option_map}
-use Rattle.bd_deaths.specs.Entries.{at_of, process_row, first_at, is_told_in}
-use Rattle.bd_deaths.proofs.{Sharing.{none_counted}, Looking.{all_kept, marks_are, first_is, told_count, only_told, is_it}}
+use Rattle.bd_deaths.proofs.Words.{ap, at_of, first_at, is_told_in, map, option_map, process_row, sym, ◌∙◌}
+use Rattle.bd_deaths.proofs.{Looking.{all_kept, first_is, is_it, marks_are, only_told, told_count}, Sharing.{none_counted}}
 use Rattle.bd_deaths.proofs.table.DeathTable.slot_told.Goals as goal
 
 pub returns-then-sharers-eq0 : goal.returns-then-sharers-eq0

@@ -1,9 +1,5 @@
-use Rattle.std.proofs.Common.{sym, ap, ◌∙◌, arith}
-use Rattle.std.specs.Prelude.{option_map}
-use Rattle.bd_space.specs.Deaths.{is_uncleared_on}
-use Rattle.bd_deaths.specs.declared.key.NameKey.{NameKey}
-use Rattle.bd_deaths.specs.Entries.{at_of, death_of}
-use Rattle.bd_deaths.proofs.Changes.{death_found, death_none, find_same, asks_uncleared}
+use Rattle.bd_deaths.proofs.Words.{NameKey, ap, arith, at_of, death_of, is_uncleared_on, option_map, sym, ◌∙◌}
+use Rattle.bd_deaths.proofs.Changes.{asks_uncleared, death_found, death_none, find_same}
 use Rattle.bd_deaths.proofs.table.DeathTable.uncleared.Goals as goal
 
 pub returns : goal.returns
