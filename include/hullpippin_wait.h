@@ -10,8 +10,10 @@
  *    at work; and it pauses longer and longer between its looks.
  *  - hullpippin_await has the answer to what a seat has posted. It serves all seats once a look has found the engine free, and until then
  *    looks only whether its own answer is there.
+ *  - hullpippin_hand_over has a request run, by a call where the engine is free, and by posting it where it isn't: a request and an answer that
+ *    go from one processor's cache to another's and back take longer than a step.
  *  - hullpippin_sleep has a thread sleep until its seat has something to read. A bell wakes it, one for all seats of a driver, which
- *    the two above ring after each request. If you make a request otherwise, ring the bell yourself.
+ *    those above ring after each request. If you make a request otherwise, ring the bell yourself.
  *
  *     hullpippin_bell bell = HULLPIPPIN_BELL;
  *     struct read_of { uint32_t limit; } most = { 256 };
@@ -131,6 +133,44 @@ static inline uint32_t hullpippin_await(hullpippin_bell *bell, hullpippin_seat *
             return served;
         hullpippin_pause(looks);
     }
+}
+
+/* Makes the call that a request is. A kind that hullpippin_post doesn't know is NO_SUCH_REQUEST. */
+static inline uint32_t hullpippin_call(hullpippin_seat *seat, const hullpippin_request *request, const uint8_t *stream, size_t stream_size,
+                                       const uint8_t *area, size_t area_size, hullpippin_answer *answer)
+{
+    switch (request->kind) {
+    case HULLPIPPIN_OPEN: return hullpippin_open(seat, request->pid, request->euid, request->window, answer);
+    case HULLPIPPIN_ATTACH: return hullpippin_attach(seat, request->pid, answer);
+    case HULLPIPPIN_MANAGER: return hullpippin_manager(seat, answer);
+    case HULLPIPPIN_SET_SPAM: return hullpippin_set_spam(seat, request->on, answer);
+    case HULLPIPPIN_WRITE: return hullpippin_write(seat, stream, stream_size, area, area_size, answer);
+    case HULLPIPPIN_READ: return hullpippin_read(seat, request->limit, answer);
+    case HULLPIPPIN_EXIT_THREAD: return hullpippin_exit_thread(seat, answer);
+    case HULLPIPPIN_EXIT_PROCESS: return hullpippin_exit_process(seat, answer);
+    default: return HULLPIPPIN_NO_SUCH_REQUEST;
+    }
+}
+
+/* Has a request run, and the answer to it, however long that takes; the stream and the area are those of a write. Where no other seat has the
+   engine this is a call, and rings the bell, where there is one; where one has, the request is posted and awaited. The status is that of the
+   call, of hullpippin_post if that isn't DONE, or of hullpippin_await. */
+static inline uint32_t hullpippin_hand_over(hullpippin_bell *bell, hullpippin_seat *seat, const hullpippin_request *request,
+                                            const uint8_t *stream, size_t stream_size, const uint8_t *area, size_t area_size,
+                                            hullpippin_answer *answer)
+{
+    hullpippin_page page;
+    hullpippin_look(seat, &page);
+    if (!page.taken) {
+        uint32_t status = hullpippin_call(seat, request, stream, stream_size, area, area_size, answer);
+        if (status != HULLPIPPIN_DONE || answer->kind != HULLPIPPIN_BACK || answer->why != HULLPIPPIN_BACK_TAKEN) {
+            if (bell)
+                hullpippin_ring(bell);
+            return status;
+        }
+    }
+    uint32_t status = hullpippin_post(seat, request, stream, stream_size, area, area_size);
+    return status == HULLPIPPIN_DONE ? hullpippin_await(bell, seat, answer) : status;
 }
 
 /* Sleeps until the seat of this number, which is the one given, has something to read. Answers false where that isn't so by a time of

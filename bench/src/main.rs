@@ -23,8 +23,9 @@ use beside::{ByMutex, ByRequests, BySteps, ByTicket};
 use engines::{HandedOver, Library};
 use hullpippin::{Verdict, verdict_on};
 use settings::Settings;
-use sharing::{ByCall, ByPost, Shape};
+use sharing::{ByCall, ByEither, ByPost, Shape};
 use std::process::ExitCode;
+use std::time::Duration;
 use table::{Key, Shown, Table, Whose};
 
 /// The parts that `--only` chooses from.
@@ -118,6 +119,14 @@ fn once(settings: &Settings, run: usize, table: &mut Table) {
     }
 }
 
+/// How a thread has its requests run, and what runs it so.
+type Through = fn(Library, Shape, u32, Duration) -> (Library, u64, f64);
+const WAYS: [(&str, Through); 3] = [
+    ("by call", sharing::through::<ByCall>),
+    ("by post and serve", sharing::through::<ByPost>),
+    ("by call, or posted where another has the engine", sharing::through::<ByEither>),
+];
+
 /// Pairs in 1 to 8 threads, and single seats in 2 to 16.
 fn threads(settings: &Settings, table: &mut Table) {
     for (shape, counts, name) in [
@@ -127,17 +136,17 @@ fn threads(settings: &Settings, table: &mut Table) {
         for count in counts {
             let key = |way: &str| Key { kind: None, name: format!("{name}, {way}"), n: Some(count) };
             let pairs = if shape == Shape::PairEach { count } else { count / 2 };
-            let ran = sharing::through::<ByCall>(sharing::introduced(pairs), shape, count, settings.time());
-            table.add(key("by call"), Whose::Ours, lawful(ran));
-            let ran = sharing::through::<ByPost>(sharing::introduced(pairs), shape, count, settings.time());
-            table.add(key("by post and serve"), Whose::Ours, lawful(ran));
+            for (way, through) in WAYS {
+                let ran = through(sharing::introduced(pairs), shape, count, settings.time());
+                table.add(key(way), Whose::Ours, lawful(ran));
+            }
             if beside::IS_THERE {
                 let nanoseconds = |seconds: f64, steps: u64| 1e9 * seconds / steps as f64;
                 let ran = sharing::run(ByMutex::seats(sharing::introduced(pairs)), shape, count, settings.time());
                 let by_mutex = nanoseconds(ran.seconds, ran.steps);
                 let ran = sharing::run(ByTicket::seats(sharing::introduced(pairs)), shape, count, settings.time());
                 let by_ticket = nanoseconds(ran.seconds, ran.steps);
-                for way in ["by call", "by post and serve"] {
+                for (way, _) in WAYS {
                     table.add(key(way), Whose::Beside, by_mutex);
                     table.add(key(way), Whose::BesideByTicket, by_ticket);
                 }

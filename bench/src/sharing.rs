@@ -26,6 +26,9 @@ pub struct ByCall(Numbered);
 /// Each request is posted, and whoever finds the engine free serves, as `Seat::awaited` does.
 pub struct ByPost(Numbered);
 
+/// Each request is a call where the engine is free, and else posted, as `Seat::hand_over` does.
+pub struct ByEither(Numbered);
+
 impl From<Numbered> for ByCall {
     fn from(seat: Numbered) -> ByCall {
         ByCall(seat)
@@ -35,6 +38,12 @@ impl From<Numbered> for ByCall {
 impl From<Numbered> for ByPost {
     fn from(seat: Numbered) -> ByPost {
         ByPost(seat)
+    }
+}
+
+impl From<Numbered> for ByEither {
+    fn from(seat: Numbered) -> ByEither {
+        ByEither(seat)
     }
 }
 
@@ -69,6 +78,19 @@ impl Hand for ByPost {
     }
 }
 
+impl Hand for ByEither {
+    fn ask(&mut self, ask: &Ask, buffer: u64) -> Told {
+        let seat = &mut self.0.seat;
+        let free = crate::commands::free(buffer);
+        let outcome = seat.hand_over(engines::posted(ask, &free));
+        engines::kept(seat, outcome)
+    }
+
+    fn is_ready(&mut self) -> bool {
+        self.0.is_ready()
+    }
+}
+
 impl From<ByCall> for Seat {
     fn from(hand: ByCall) -> Seat {
         hand.0.seat
@@ -77,6 +99,12 @@ impl From<ByCall> for Seat {
 
 impl From<ByPost> for Seat {
     fn from(hand: ByPost) -> Seat {
+        hand.0.seat
+    }
+}
+
+impl From<ByEither> for Seat {
+    fn from(hand: ByEither) -> Seat {
         hand.0.seat
     }
 }

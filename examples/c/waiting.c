@@ -96,18 +96,25 @@ static hullpippin_answer ask(struct part *part, hullpippin_request_of *request, 
     return answer;
 }
 
-/* Has a stream run, by a call or handed over. */
+/* Has a stream run: by a call, posted, or by whichever is at hand. */
 static void write_stream(struct part *part, struct stream *stream)
 {
     hullpippin_request request = { .kind = HULLPIPPIN_WRITE };
     hullpippin_answer answer;
-    if (part->number % 2) {
+    uint32_t status;
+    switch (part->number % 3) {
+    case 1:
         ask(part, write_once, stream, HULLPIPPIN_WROTE);
         return;
+    case 2:
+        status = hullpippin_hand_over(&bell, &part->seat, &request, stream->bytes, stream->size, stream->area, sizeof stream->area, &answer);
+        break;
+    default:
+        status = hullpippin_post(&part->seat, &request, stream->bytes, stream->size, stream->area, sizeof stream->area);
+        if (status == HULLPIPPIN_DONE)
+            status = hullpippin_await(&bell, &part->seat, &answer);
     }
-    uint32_t status = hullpippin_post(&part->seat, &request, stream->bytes, stream->size, stream->area, sizeof stream->area);
-    if (status != HULLPIPPIN_DONE || hullpippin_await(&bell, &part->seat, &answer) != HULLPIPPIN_DONE
-        || answer.kind != HULLPIPPIN_WROTE || answer.stop)
+    if (status != HULLPIPPIN_DONE || answer.kind != HULLPIPPIN_WROTE || answer.stop)
         fail("what was handed over has another answer");
 }
 

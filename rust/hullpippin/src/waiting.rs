@@ -3,7 +3,7 @@
 use std::thread;
 use std::time::Duration;
 
-use crate::{Error, Outcome, Seat, Why};
+use crate::{Error, Outcome, Request, Seat, Why};
 
 /// How long a pause is, in turns of a loop that rests the processor: twice as long behind each look, up to the most.
 const FEWEST_TURNS: u32 = 16;
@@ -89,6 +89,48 @@ impl Seat {
                 Err(error) => return Err(error),
             }
             looks = looks.saturating_add(1);
+        }
+    }
+
+    /// Has a request run, and answers what it came to, however long that takes. Where no other seat has the engine this is a call; where one
+    /// has, the request is posted, and whoever serves runs it.
+    ///
+    /// A posted request and its answer go from one processor's cache to another's and back, which takes longer than a step. So a thread that
+    /// finds the engine free doesn't post.
+    ///
+    /// ```
+    /// use hullpippin::{Answer, Driver, Request};
+    ///
+    /// fn main() -> Result<(), hullpippin::Error> {
+    ///     let mut driver = Driver::new(2)?;
+    ///     let mut seat = driver.take_seat()?;
+    ///     let opened = seat.hand_over(Request::Open { pid: 100, euid: 1000, window: 4096 })?;
+    ///     assert_eq!(opened.answer(), Some(Answer::Opened));
+    ///     Ok(())
+    /// }
+    /// ```
+    pub fn hand_over(&mut self, request: Request<'_>) -> Result<Outcome, Error> {
+        if !self.look().taken {
+            let outcome = self.call(request)?;
+            if !matches!(outcome, Outcome::Back(Why::Taken)) {
+                return Ok(outcome);
+            }
+        }
+        self.post(request)?;
+        self.awaited()
+    }
+
+    // Makes the call that this request is.
+    fn call(&mut self, request: Request<'_>) -> Result<Outcome, Error> {
+        match request {
+            Request::Open { pid, euid, window } => self.open(pid, euid, window),
+            Request::Attach { pid } => self.attach(pid),
+            Request::Manager => self.manager(),
+            Request::SetSpam { on } => self.set_spam(on),
+            Request::Write { stream, area } => self.write(stream, area),
+            Request::Read { limit } => self.read(limit),
+            Request::ExitThread => self.exit_thread(),
+            Request::ExitProcess => self.exit_process(),
         }
     }
 }

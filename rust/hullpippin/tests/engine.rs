@@ -283,6 +283,10 @@ fn who_hands_over_is_answered() {
             assert_eq!(seat.awaited().expect("an answer").answer(), Some(Answer::Refused(Fault::Again)));
         }
         assert_eq!(seat.awaited(), Err(Error::NotWaiting));
+        for _ in 0..TIMES {
+            let outcome = seat.hand_over(Request::Read { limit: 256 }).expect("an answer");
+            assert_eq!(outcome.answer(), Some(Answer::Refused(Fault::Again)));
+        }
         seat
     };
     let threads: Vec<_> = seats.into_iter().map(|seat| thread::spawn(move || asks(seat))).collect();
@@ -290,7 +294,7 @@ fn who_hands_over_is_answered() {
         driver.return_seat(seat.join().expect("no thread panics")).expect("the driver's own");
     }
     let journal = driver.finish().expect("all seats are back").journal().expect("a journal");
-    assert_eq!(verdict_on(&journal), Ok(Verdict::Lawful(8 * TIMES)));
+    assert_eq!(verdict_on(&journal), Ok(Verdict::Lawful(16 * TIMES)));
 }
 
 /// The manager is sent an object one-way and keeps it; it is called and replies.
