@@ -131,6 +131,10 @@ impl DeathTable {
         // Memory was asked for: there was no room.
         ensures grown { OnErr result (more ≤ death_room self.old → ⊥) }
     {
+        // Most steps make none.
+        if more == 0 {
+            return Ok(());
+        }
         if more as u64 > u64::MAX - self.next {
             return Err(AllocError);
         }
