@@ -1,11 +1,6 @@
 -- What is said of each object with an identity is said of one.
-use Rattle.std.proofs.Common.{◌≡◌, Bool, true, false, not, ◌||◌, if◌then◌else◌, List, [], ◌∷◌, Some, None, filter, refl, ap, sym, subst, ◌∙◌}
-use Rattle.bd_ways.specs.Words.{Identity, Object, Reference, same}
-use Rattle.bd_space.specs.References.{object_in, held_in}
-use Rattle.bd_records.specs.ObjectKeys.{id_key}
-use Rattle.bd_space.proofs.Identities.{same_eq, same_self}
-use Rattle.bd_records.proofs.Distinct.{some_stays, none_stays}
-use Rattle.bd_records.specs.{declared.records.Records.{Records}, Records.{RecordsAre}}
+use Rattle.bd_objects.proofs.Words.{Bool, Identity, List, None, Object, Records, RecordsAre, Reference, Some, [], ap, false, filter, held_in, id_key, if◌then◌else◌, none_stays, not, object_in, refl, same, same_eq, same_self, some_stays, subst, sym}
+use Rattle.bd_objects.proofs.Words.{true, ◌||◌, ◌∙◌, ◌∷◌, ◌≡◌}
 
 -- what is found by its identity has it
 pub found_same : (objects : List Object) (o : Identity) (x : Object) → object_in objects o ≡ Some x → same x.id o ≡ true

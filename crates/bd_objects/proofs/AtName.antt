@@ -1,17 +1,6 @@
 -- A change at one name: what is said of the elements there is the same of each.
-use Rattle.std.proofs.Common.{◌≡◌, ℕ, Bool, true, false, not, ◌&&◌, ◌||◌, cond, List, [], ◌∷◌, filter, refl, ap, sym, ◌∙◌}
-use Rattle.std.specs.List.{list_any}
-use Rattle.std.proofs.lemmas.Bool.{and_parts, eqb-true}
-use Rattle.bd_space.specs.declared.step.Identity.{Identity}
-use Rattle.bd_space.specs.declared.space.Object.{Object}
-use Rattle.bd_space.specs.declared.space.Reference.{Reference}
-use Rattle.bd_space.specs.declared.space.Name.{Name}
-use Rattle.bd_space.specs.declared.space.DeathNotification.{DeathNotification}
-use Rattle.bd_space.specs.Names.{is_named_in}
-use Rattle.bd_space.specs.Notices.{is_name_of}
-use Rattle.bd_ways.specs.Local.{at_name}
-use Rattle.bd_space.proofs.Identities.{same_eq}
-use Rattle.bd_objects.specs.Deaths.{is_lost}
+use Rattle.bd_objects.proofs.Words.{Bool, DeathNotification, Identity, List, Name, Object, Reference, [], and_parts, ap, at_name, cond, eqb-true, false, filter, is_lost, is_name_of, is_named_in, list_any, not, refl, same_eq, sym, true, ℕ, ◌&&◌, ◌||◌}
+use Rattle.bd_objects.proofs.Words.{◌∙◌, ◌∷◌, ◌≡◌}
 
 module _ {A : Type 0} (chosen stays : A → Bool) where
   stay : (xs : List A) → ((x : A) → chosen x ≡ true → stays x ≡ true) → filter (λ x. not (chosen x) || stays x) xs ≡ xs

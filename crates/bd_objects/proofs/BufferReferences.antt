@@ -1,13 +1,6 @@
 -- The references of a buffer, one item after the other.
-use Rattle.std.proofs.Common.{◌≡◌, ℕ, suc, ◌+◌, ◌<◌, List, [], ◌∷◌, ◌++◌, Option, None, Some, take, length, get_or, refl, ap, sym, ◌∙◌, append_assoc, arith}
-use Rattle.std.proofs.lemmas.List.{take_more, length-take-le}
-use Rattle.bd_space.specs.declared.step.Identity.{Identity}
-use Rattle.bd_space.specs.declared.space.Item.{Item}
-use Rattle.bd_space.specs.declared.space.Reference.{Reference}
-use Rattle.bd_space.specs.declared.space.Holder.TheVariants.{Carried}
-use Rattle.bd_space.specs.References.{reference_of}
-use Rattle.bd_uapi.specs.Kinds.{is_strong_kind}
-use Rattle.bd_space.specs.Delivery.{buffer_references}
+use Rattle.bd_objects.proofs.Words.{Carried, Identity, Item, List, None, Option, Reference, Some, [], ap, append_assoc, arith, buffer_references, get_or, is_strong_kind, length, length-take-le, reference_of, refl, suc, sym, take, take_more, ℕ, ◌++◌}
+use Rattle.bd_objects.proofs.Words.{◌+◌, ◌<◌, ◌∙◌, ◌∷◌, ◌≡◌}
 
 module _ (place q : ℕ) where
   abbrev held : ℕ → List Item → Option Identity → List Reference

@@ -1,6 +1,5 @@
 -- Two changes that do the same to what passes.
-use Rattle.std.proofs.Common.{◌≡◌, Bool, true, false, cond, List, [], ◌∷◌, refl, ap}
-use Rattle.bd_space.specs.Words.{changed}
+use Rattle.bd_objects.proofs.Words.{Bool, List, [], ap, changed, cond, false, refl, true, ◌∷◌, ◌≡◌}
 
 module _ {A : Type 0} (p : A → Bool) (f g : A → A) (same : (x : A) → p x ≡ true → f x ≡ g x) where
   same_at : (x : A) (b : Bool) → p x ≡ b → cond b (f x) x ≡ cond b (g x) x

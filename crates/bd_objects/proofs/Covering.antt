@@ -1,17 +1,6 @@
 -- What goes with a process is on objects that it owns, or goes whoever owns it.
-use Rattle.std.proofs.Common.{◌≡◌, ℕ, ◌==◌, Bool, true, false, ◌&&◌, ◌||◌, cond, List, [], ◌∷◌, ◌++◌, map, filter, refl, sym, ◌∙◌, subst, inl, inr, ◌⊎◌}
-use Rattle.std.specs.List.{list_any}
-use Rattle.std.proofs.lemmas.Bool.{and_parts, or_left, or_right, or_cases}
-use Rattle.std.proofs.lemmas.List.Folds.{list_any-append}
-use Rattle.bd_space.specs.declared.step.Identity.{Identity}
-use Rattle.bd_space.specs.declared.space.Object.{Object}
-use Rattle.bd_space.specs.declared.space.Reference.{Reference}
-use Rattle.bd_space.specs.Words.{same}
-use Rattle.bd_ways.specs.Local.{is_among}
-use Rattle.bd_space.specs.References.{owned_in, is_asked_by, is_in_window, is_of_owner}
-use Rattle.bd_space.specs.ProcessExits.{is_dropped_with}
-use Rattle.bd_records.specs.New.{HasAll}
-use Rattle.bd_space.proofs.Identities.{same_eq, same_self}
+use Rattle.bd_objects.proofs.Words.{Bool, HasAll, Identity, List, Object, Reference, [], and_parts, cond, false, filter, inl, inr, is_among, is_asked_by, is_dropped_with, is_in_window, is_of_owner, list_any, list_any-append, map, or_cases, or_left}
+use Rattle.bd_objects.proofs.Words.{or_right, owned_in, refl, same, same_eq, same_self, subst, sym, true, ℕ, ◌&&◌, ◌++◌, ◌==◌, ◌||◌, ◌∙◌, ◌∷◌, ◌≡◌, ◌⊎◌}
 
 among_append : (xs ys : List Identity) (o : Identity) → is_among (xs ++ ys) o ≡ (is_among xs o || is_among ys o)
 among_append xs ys o = list_any-append (λ i. same o i) xs ys

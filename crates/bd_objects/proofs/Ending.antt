@@ -1,10 +1,6 @@
 -- What goes with a process: once nothing is its own any more, no reference gives it a name.
-use Rattle.std.proofs.Common.{◌≡◌, ℕ, ◌==◌, Bool, true, false, not, ◌&&◌, ◌||◌, cond, List, [], ◌∷◌, filter, refl, ap, sym, subst, ◌∙◌}
-use Rattle.std.specs.List.{list_any}
-use Rattle.bd_ways.specs.Words.{Identity, Object, Reference, Holder, Asked, Carried, Target, Handshake, Manager}
-use Rattle.bd_space.specs.References.{owned_in, is_asked_by, is_in_window, is_of_owner, gives_name_to}
-use Rattle.bd_space.specs.ProcessExits.{is_dropped_with}
-use Rattle.bd_records.specs.New.{HasAll}
+use Rattle.bd_objects.proofs.Words.{Asked, Bool, Carried, Handshake, HasAll, Holder, Identity, List, Manager, Object, Reference, Target, [], ap, cond, false, filter, gives_name_to, is_asked_by, is_dropped_with, is_in_window, is_of_owner, list_any}
+use Rattle.bd_objects.proofs.Words.{not, owned_in, refl, subst, sym, true, ℕ, ◌&&◌, ◌==◌, ◌||◌, ◌∙◌, ◌∷◌, ◌≡◌}
 use Rattle.bd_objects.proofs.Owned.{goes_with}
 
 -- ---- lists

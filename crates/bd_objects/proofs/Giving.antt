@@ -1,26 +1,9 @@
 -- The names that come with references, given one after the other: an object that a process comes to refer to is to be
 -- named unless it is its own.
-use Rattle.std.proofs.Common.{◌≡◌, ℕ, zero, suc, ◌+◌, ◌<◌, Bool, true, false, not, ◌&&◌, ◌||◌, if◌then◌else◌, cond, List, [], ◌∷◌, ◌++◌, Option, take, drop, length, get_or, fold, filter, map, refl, ap, sym, ◌∙◌, subst, append-nil, arith}
-use Rattle.std.specs.Prelude.{◌==◌, nat_lt, is_some, Some, None, find, option_map}
-use Rattle.std.specs.Option.{option_eq}
-use Rattle.std.proofs.lemmas.Bool.{lt-ltb, or_right, and_parts, and_from, eq-eqb}
-use Rattle.std.proofs.lemmas.List.Folds.{fold-map, list_any-append}
-use Rattle.std.proofs.lemmas.List.Sums.{fold_more}
-use Rattle.std.proofs.lemmas.List.Elements.{filter-append}
-use Rattle.bd_space.specs.declared.step.Identity.{Identity}
-use Rattle.bd_space.specs.declared.space.Item.{Item}
-use Rattle.bd_space.specs.declared.space.Name.{Name}
-use Rattle.bd_space.specs.declared.space.Object.{Object}
-use Rattle.bd_space.specs.declared.space.Reference.{Reference}
-use Rattle.bd_space.specs.Words.{same, list_all}
-use Rattle.bd_space.specs.References.{object_in, owned_in}
-use Rattle.bd_space.specs.Parcels.{object_of_item}
-use Rattle.bd_space.specs.Names.{is_named_in, is_managers, named_in, number_in, with_name, has_number_past_limit}
-use Rattle.bd_space.proofs.Identities.{same_eq, same_self}
-use Rattle.bd_records.specs.Numbers.{IsFull, new_number}
-use Rattle.bd_objects.specs.Naming.{with_name_unless, with_other_name, is_referred, AreReferred}
-use Rattle.bd_objects.specs.Numbers.{IsPastLimit}
-use Rattle.bd_objects.specs.Delivery.{is_ready, AreReady}
+use Rattle.bd_objects.proofs.Words.{AreReady, AreReferred, Bool, Identity, IsFull, IsPastLimit, Item, List, Name, None, Object, Option, Reference, Some, [], and_from, and_parts, ap, append-nil, arith, cond, drop, eq-eqb, false, filter, filter-append}
+use Rattle.bd_objects.proofs.Words.{find, fold, fold-map, fold_more, get_or, has_number_past_limit, if◌then◌else◌, is_managers, is_named_in, is_ready, is_referred, is_some, length, list_all, list_any-append, lt-ltb, map, named_in, nat_lt, new_number}
+use Rattle.bd_objects.proofs.Words.{not, number_in, object_in, object_of_item, option_eq, option_map, or_right, owned_in, refl, same, same_eq, same_self, subst, suc, sym, take, true, with_name, with_name_unless, with_other_name, zero, ℕ, ◌&&◌, ◌++◌}
+use Rattle.bd_objects.proofs.Words.{◌+◌, ◌<◌, ◌==◌, ◌||◌, ◌∙◌, ◌∷◌, ◌≡◌}
 
 by_cases : {A : Type 0} (own some : Bool) (xs ys : A) → (if own then xs else (if some then xs else ys)) ≡ (if (not own && true) && not some then ys else xs)
 by_cases true some xs ys = refl

@@ -1,11 +1,5 @@
 -- What is left to be acknowledged, one work item after the other.
-use Rattle.std.proofs.Common.{◌≡◌, ℕ, ◌+◌, ◌<◌, List, [], ◌∷◌, ◌++◌, take, length, get_or, ap, sym, ◌∙◌, append_assoc, append-nil, arith, length-append, subst}
-use Rattle.std.proofs.lemmas.List.{take_more}
-use Rattle.bd_space.specs.declared.space.Work.{Work}
-use Rattle.bd_space.specs.Space.{Space}
-use Rattle.bd_space.specs.ReadItems.{handshakes, handshakes_of}
-use Rattle.bd_records.specs.declared.records.Records.{Records}
-use Rattle.bd_records.specs.Records.{RecordsAre}
+use Rattle.bd_objects.proofs.Words.{List, Records, RecordsAre, Space, Work, [], ap, append-nil, append_assoc, arith, get_or, handshakes, handshakes_of, length, length-append, subst, sym, take, take_more, ℕ, ◌++◌, ◌+◌, ◌<◌, ◌∙◌, ◌∷◌, ◌≡◌}
 
 module _ (s : Space) where
   one_more : (ws : List Work) (w : Work) (k : ℕ) → handshakes s k (ws ++ w ∷ []) ≡ handshakes s k ws ++ handshakes_of s (k + length (handshakes s k ws)) w.kind

@@ -1,23 +1,9 @@
 -- What an acknowledgement that is owed holds is held already, and strongly if it is a strong one.
-use Rattle.std.proofs.Common.{◌≡◌, ℕ, suc, ◌+◌, Bool, true, false, not, ◌&&◌, ◌||◌, if◌then◌else◌, List, [], ◌∷◌, ◌++◌, Option, None, Some, length, refl, ap, sym, ◌∙◌, subst, inl, inr}
-use Rattle.std.specs.List.{flat_map}
-use Rattle.std.proofs.lemmas.Bool.{and_parts, or_left, or_right, or_cases}
-use Rattle.std.proofs.lemmas.List.Folds.{list_any-append}
-use Rattle.bd_uapi.specs.declared.command.Return.TheVariants as br
-use Rattle.bd_space.specs.declared.step.Identity.{Identity}
-use Rattle.bd_space.specs.declared.space.Object.{Object}
-use Rattle.bd_space.specs.declared.space.Reference.{Reference}
-use Rattle.bd_space.specs.declared.space.Work.{Work}
-use Rattle.bd_space.specs.declared.space.WorkKind.{WorkKind}
-use Rattle.bd_space.specs.declared.space.WorkKind.TheVariants as work
-use Rattle.bd_space.specs.Words.{same}
-use Rattle.bd_space.specs.Space.{Space}
-use Rattle.bd_space.specs.References.{held_in, strong_in, object_in}
-use Rattle.bd_space.specs.Returns.{returns_of, returns_of_object}
-use Rattle.bd_space.specs.ReadItems.{shakes, handshakes_for, handshakes_of, handshakes}
-use Rattle.bd_space.proofs.Identities.{same_eq}
-use Rattle.bd_objects.specs.Reading.{owed, HoldsAlike}
+use Rattle.bd_objects.proofs.Words.{Bool, HoldsAlike, Identity, List, None, Object, Option, Reference, Some, Space, Work, WorkKind, [], and_parts, ap, false, flat_map, handshakes, handshakes_for, handshakes_of, held_in, if◌then◌else◌, inl, inr}
+use Rattle.bd_objects.proofs.Words.{length, list_any-append, not, object_in, or_cases, or_left, or_right, owed, refl, returns_of, returns_of_object, same, same_eq, shakes, strong_in, subst, suc, sym, true, ℕ, ◌&&◌, ◌++◌, ◌+◌, ◌||◌, ◌∙◌, ◌∷◌, ◌≡◌}
 use Rattle.bd_objects.proofs.Apart.{found_same}
+use Rattle.bd_uapi.specs.declared.command.Return.TheVariants as br
+use Rattle.bd_space.specs.declared.space.WorkKind.TheVariants as work
 
 -- ---- what is owed
 

@@ -1,15 +1,7 @@
 -- References for which there are records, by what the space says of them.
-use Rattle.std.proofs.Common.{◌≡◌, ℕ, ◌<◌, ◌||◌, zero, suc, Bool, true, false, cond, List, [], ◌∷◌, ◌++◌, Option, Some, None, is_some, length, get_or, refl, ap, sym, subst, ◌∙◌, arith}
-use Rattle.std.specs.Prelude.{option_map}
-use Rattle.std.proofs.lemmas.Bool.{and_parts, eqb-true}
-use Rattle.bd_space.proofs.Identities.{same_self}
-use Rattle.bd_ways.specs.Words.{list_all, same, Identity, Item, Object, Reference, Name, Asked, Carried}
-use Rattle.bd_space.specs.References.{object_in, owned_in, gives_name_to, is_asked_by, reference_of}
-use Rattle.bd_space.specs.Names.{number_in}
-use Rattle.bd_numbered.specs.Numbered.{value_at}
-use Rattle.bd_records.specs.declared.{row.ObjectRow.{ObjectRow}, records.Records.{Records}, names.Names.{Names}}
-use Rattle.bd_records.specs.{Records.{RecordsAre, IsHomed}, NamesAre.{NamesAre}, Objects.{row_at}, Names.{name_at, number_of}, NameRows.{object_of}, Slots.{on_slot}}
-use Rattle.bd_objects.specs.{New.{IsHere}, Delivery.{is_ready, AreReady}}
+use Rattle.bd_objects.proofs.Words.{AreReady, Asked, Bool, Carried, Identity, IsHere, IsHomed, Item, List, Name, Names, NamesAre, None, Object, ObjectRow, Option, Records, RecordsAre, Reference, Some, [], and_parts, ap, arith, cond, eqb-true, false}
+use Rattle.bd_objects.proofs.Words.{get_or, gives_name_to, is_asked_by, is_ready, is_some, length, list_all, name_at, number_in, number_of, object_in, object_of, on_slot, option_map, owned_in, reference_of, refl, row_at, same, same_self, subst, suc}
+use Rattle.bd_objects.proofs.Words.{sym, true, value_at, zero, ℕ, ◌++◌, ◌<◌, ◌||◌, ◌∙◌, ◌∷◌, ◌≡◌}
 
 -- ---- an object that is there has a record, and a name too
 

@@ -1,19 +1,7 @@
 -- What a parcel makes is found by halves, or by owner and ptr.
-use Rattle.std.proofs.Common.{◌≡◌, ℕ, ◌==◌, ◌<◌, ◌≤◌, ◌+◌, ◌&&◌, ◌||◌, nat_lt, Bool, true, false, cond, refl, List, [], ◌∷◌, ◌++◌, Option, Some, None, take, drop, find, length, All, ap, sym, subst, ◌∙◌, arith, length-append}
-use Rattle.std.specs.Option.{option_or}
-use Rattle.std.proofs.lemmas.Bool.{eqb-true}
-use Rattle.std.proofs.lemmas.List.{take-append-drop, take-append-le, take_all, drop-append-le, drop_all}
-use Rattle.std.proofs.lemmas.List.Folds.{find-append}
-use Rattle.std.proofs.lemmas.List.Elements.{All-head, All-tail, All-push, All-weaker}
-use Rattle.std.proofs.lemmas.List.Quantifiers.{all_pairs_push}
-use Rattle.bd_space.specs.declared.space.Object.{Object}
-use Rattle.bd_space.specs.References.{own_in}
-use Rattle.bd_keys.specs.declared.key.WordKey.{WordKey}
-use Rattle.bd_keys.specs.declared.map.WordMap.{WordMap}
-use Rattle.bd_keys.specs.Look.{look}
-use Rattle.bd_keys.proofs.Rising.{distinct, rest_differ, pairs_tail, find_none}
-use Rattle.bd_records.specs.ObjectKeys.{kept}
-use Rattle.bd_objects.specs.Later.{few, own_at, Finds, IsRising}
+use Rattle.bd_objects.proofs.Words.{All, All-head, All-push, All-tail, All-weaker, Bool, Finds, IsRising, List, None, Object, Option, Some, WordKey, WordMap, [], all_pairs_push, ap, arith, cond, distinct, drop, drop-append-le, drop_all, eqb-true}
+use Rattle.bd_objects.proofs.Words.{false, few, find, find-append, find_none, kept, length, length-append, look, nat_lt, option_or, own_at, own_in, pairs_tail, refl, rest_differ, subst, sym, take, take-append-drop, take-append-le, take_all, true, ℕ}
+use Rattle.bd_objects.proofs.Words.{◌&&◌, ◌++◌, ◌+◌, ◌<◌, ◌==◌, ◌||◌, ◌∙◌, ◌∷◌, ◌≡◌, ◌≤◌}
 
 abbrev pub ptr_of : Object → ℕ
 ptr_of x = x.ptr

@@ -17,3 +17,4 @@ pub mod Covering
 pub mod Later
 pub mod Owned
 mod Spent
+mod Words

@@ -1,24 +1,9 @@
 -- The only notification that goes with a name: the work items of all others stay.
-use Rattle.std.proofs.Common.{◌≡◌, ℕ, ◌==◌, Bool, true, false, not, ◌&&◌, ◌||◌, cond, List, [], ◌∷◌, Option, Some, None, is_some, find, filter, refl, ap, sym, subst, ◌∙◌}
-use Rattle.std.specs.List.{list_any}
-use Rattle.std.proofs.lemmas.Bool.{and_parts, and_from, eqb-true, eq-eqb}
-use Rattle.std.proofs.Math.Bool.{and-false, and-true}
-use Rattle.bd_keys.proofs.Found.{found_passes, any_some, find_gone, find_stays}
-use Rattle.bd_space.specs.declared.step.Identity.{Identity}
-use Rattle.bd_space.specs.declared.space.Name.{Name}
-use Rattle.bd_space.specs.declared.space.DeathNotification.{DeathNotification}
-use Rattle.bd_space.specs.declared.space.WorkKind.{WorkKind}
-use Rattle.bd_space.specs.declared.space.WorkKind.TheVariants as work
-use Rattle.bd_space.specs.Words.{is_some_and}
-use Rattle.bd_space.specs.Todo.{death_of}
-use Rattle.bd_space.specs.Space.{Space}
-use Rattle.bd_space.specs.Notices.{still_due, is_name_of}
-use Rattle.bd_space.specs.Deaths.{is_uncleared_on, is_notification, uncleared_in}
-use Rattle.bd_ways.specs.Local.{at_name, is_touched, deaths_go_of}
-use Rattle.bd_objects.specs.Deaths.{is_lost, only_lost}
+use Rattle.bd_objects.proofs.Words.{Bool, DeathNotification, DeathTable, DeathsAre, Identity, List, Name, None, Option, Some, Space, WorkKind, [], and-false, and-true, and_from, and_parts, any_some, ap, at_name, cond, death_of, deaths_go_of, eq-eqb}
+use Rattle.bd_objects.proofs.Words.{eqb-true, false, filter, find, find_gone, find_stays, found_passes, is_lost, is_name_of, is_notification, is_some, is_some_and, is_touched, is_uncleared_on, list_any, none_goes, not, one_goes, only_lost, only_one}
+use Rattle.bd_objects.proofs.Words.{refl, still_due, subst, sym, true, uncleared_in, ℕ, ◌&&◌, ◌==◌, ◌||◌, ◌∙◌, ◌∷◌, ◌≡◌}
 use Rattle.bd_objects.proofs.AtName.{filtered_at, lost_gone, lost_none}
-use Rattle.bd_deaths.specs.{declared.table.DeathTable.{DeathTable}, Stands.{DeathsAre}}
-use Rattle.bd_deaths.proofs.Only.{one_goes, none_goes, only_one}
+use Rattle.bd_space.specs.declared.space.WorkKind.TheVariants as work
 
 module _ (p : ℕ) (o : Identity) where
   abbrev at : DeathNotification → Bool

@@ -1,9 +1,5 @@
 -- What a process has as owner of its objects goes last of all that goes with it.
-use Rattle.std.proofs.Common.{◌≡◌, ℕ, Bool, true, false, not, ◌&&◌, ◌||◌, cond, List, [], ◌∷◌, filter, refl, ap, sym, ◌∙◌}
-use Rattle.bd_space.specs.declared.space.Object.{Object}
-use Rattle.bd_space.specs.declared.space.Reference.{Reference}
-use Rattle.bd_space.specs.References.{owned_in, is_asked_by, is_in_window, is_of_owner}
-use Rattle.bd_space.specs.ProcessExits.{is_dropped_with}
+use Rattle.bd_objects.proofs.Words.{Bool, List, Object, Reference, [], ap, cond, false, filter, is_asked_by, is_dropped_with, is_in_window, is_of_owner, not, owned_in, refl, sym, true, ℕ, ◌&&◌, ◌||◌, ◌∙◌, ◌∷◌, ◌≡◌}
 
 -- ---- filters
 

@@ -1,17 +1,6 @@
 -- Owners that are told what is so, one work item after the other.
-use Rattle.std.proofs.Common.{◌≡◌, ℕ, ◌+◌, ◌<◌, Bool, None, List, [], take, length, get_or, refl, ap, sym, ◌∙◌, ◌||◌}
-use Rattle.std.proofs.lemmas.List.Folds.{list_any_more}
-use Rattle.bd_space.specs.declared.step.Identity.{Identity}
-use Rattle.bd_space.specs.declared.space.Object.{Object}
-use Rattle.bd_space.specs.declared.space.Reference.{Reference}
-use Rattle.bd_space.specs.declared.space.Work.{Work}
-use Rattle.bd_space.specs.Words.{changed, is_some_and, same}
-use Rattle.bd_space.specs.Todo.{notice_of}
-use Rattle.bd_space.specs.References.{held_in, strong_in}
-use Rattle.bd_space.specs.ReadItems.{is_told_by, told_of}
-use Rattle.bd_space.proofs.Identities.{same_eq}
-use Rattle.bd_objects.specs.Reading.{HoldsAlike}
-use Rattle.bd_deaths.proofs.Tests.{none, same_tests, twice}
+use Rattle.bd_objects.proofs.Words.{Bool, HoldsAlike, Identity, List, None, Object, Reference, Work, [], ap, changed, get_or, held_in, is_some_and, is_told_by, length, list_any_more, none, notice_of, refl, same, same_eq, same_tests, strong_in, sym}
+use Rattle.bd_objects.proofs.Words.{take, told_of, twice, ℕ, ◌+◌, ◌<◌, ◌||◌, ◌∙◌, ◌≡◌}
 use Rattle.bd_objects.proofs.Changes.{same_changes}
 
 pub told_one : (refs : List Reference) (o : Identity) (weak strong : Bool) (objects : List Object) → weak ≡ held_in refs o → strong ≡ strong_in refs o

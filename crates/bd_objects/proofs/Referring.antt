@@ -1,17 +1,6 @@
 -- Which objects the references that come in refer to.
-use Rattle.std.proofs.Common.{◌≡◌, ℕ, ◌+◌, ◌==◌, Bool, true, ◌&&◌, List, [], ◌∷◌, ◌++◌, Option, map, refl, ◌∙◌}
-use Rattle.std.proofs.lemmas.Bool.{eq-eqb, or_left, or_right}
-use Rattle.std.proofs.lemmas.List.Folds.{list_any-append}
-use Rattle.bd_space.specs.declared.step.Identity.{Identity}
-use Rattle.bd_space.specs.declared.space.Item.{Item}
-use Rattle.bd_space.specs.declared.space.Reference.{Reference}
-use Rattle.bd_space.specs.declared.space.Holder.TheVariants.{Asked}
-use Rattle.bd_space.specs.Words.{same}
-use Rattle.bd_space.specs.References.{reference_of, gives_name_to}
-use Rattle.bd_space.specs.Parcels.{object_of_item}
-use Rattle.bd_space.specs.Delivery.{buffer_references}
-use Rattle.bd_space.proofs.Identities.{same_self}
-use Rattle.bd_objects.specs.Naming.{is_referred, AreReferred}
+use Rattle.bd_objects.proofs.Words.{AreReferred, Asked, Bool, Identity, Item, List, Option, Reference, [], buffer_references, eq-eqb, gives_name_to, is_referred, list_any-append, map, object_of_item, or_left, or_right, reference_of, refl, same}
+use Rattle.bd_objects.proofs.Words.{same_self, true, ℕ, ◌&&◌, ◌++◌, ◌+◌, ◌==◌, ◌∙◌, ◌∷◌, ◌≡◌}
 
 abbrev refers : ℕ → Identity → Reference → Bool
 refers p o r = same r.object o && gives_name_to p r.holder

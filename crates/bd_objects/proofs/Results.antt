@@ -1,6 +1,5 @@
 -- What holds of a result by what it is.
-use Rattle.std.proofs.Common.{◌≡◌, true, false, Result, Ok, Err, OnOk, OnErr}
-use Rattle.std.specs.Result.{is_err}
+use Rattle.bd_objects.proofs.Words.{Err, Ok, OnErr, OnOk, Result, false, is_err, true, ◌≡◌}
 
 pub on_err : {T E : Type 0} (r : Result T E) {P : Type 0} → P → OnErr r P
 on_err (Ok x) h = tt

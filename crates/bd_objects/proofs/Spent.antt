@@ -1,7 +1,5 @@
 -- What changes of the records take of their room, one after the other.
-use Rattle.std.proofs.Common.{ℕ, ◌+◌, ◌≤◌, arith}
-use Rattle.bd_records.specs.declared.records.Records.{Records}
-use Rattle.bd_records.specs.Room.{Uses}
+use Rattle.bd_objects.proofs.Words.{Records, Uses, arith, ℕ, ◌+◌, ◌≤◌}
 
 pub none_used : (t : Records) (objects references names : ℕ) → Uses t t objects references names
 none_used t objects references names = record { objects_fit = omega arith; references_fit = omega arith; names_fit = λ p. omega arith }

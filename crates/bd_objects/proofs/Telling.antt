@@ -1,18 +1,6 @@
 -- The space after the end of a process was told, by one death notification after the other.
-use Rattle.std.proofs.Common.{◌≡◌, ℕ, Bool, true, false, cond, ◌&&◌, List, [], ◌∷◌, fold, refl, ap, sym, ◌∙◌, subst}
-use Rattle.bd_space.specs.declared.space.Object.{Object}
-use Rattle.bd_space.specs.declared.space.DeathNotification.{DeathNotification}
-use Rattle.bd_space.specs.declared.space.Phase.TheVariants.{Queued}
-use Rattle.bd_space.specs.declared.space.TodoList.TheVariants.{OfProcess}
-use Rattle.bd_space.specs.declared.space.WorkKind.TheVariants.{Death}
-use Rattle.bd_space.specs.Words.{changed}
-use Rattle.bd_space.specs.Space.{Space}
-use Rattle.bd_space.specs.References.{owned_in}
-use Rattle.bd_space.specs.Deaths.{is_notification, with_phase}
-use Rattle.bd_space.specs.Todo.{owe}
-use Rattle.bd_space.specs.ProcessExits.{is_armed, tell_death}
-use Rattle.bd_deaths.proofs.Tests.{none}
-use Rattle.bd_deaths.proofs.Telling.{queued, told_by, told, told_more}
+use Rattle.bd_objects.proofs.Words.{Bool, Death, DeathNotification, List, Object, OfProcess, Queued, Space, [], ap, changed, cond, false, fold, is_armed, is_notification, none, owe, owned_in, queued, refl, subst, sym, tell_death, told, told_by}
+use Rattle.bd_objects.proofs.Words.{told_more, true, with_phase, ℕ, ◌&&◌, ◌∙◌, ◌∷◌, ◌≡◌}
 
 -- the members that telling leaves alone, and the notifications
 pub record Told (s t : Space) (deaths : List DeathNotification) : Type 0 where

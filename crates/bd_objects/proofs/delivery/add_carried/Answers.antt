@@ -1,9 +1,5 @@
-use Rattle.std.proofs.Common.{arith, subst, ◌++◌, take, append-nil, ap, sym, ◌∙◌, None}
-use Rattle.std.proofs.lemmas.List.{take_all}
-use Rattle.bd_space.specs.Delivery.{buffer_references}
-use Rattle.bd_records.specs.Records.{RecordsAre, IsHomed}
-use Rattle.bd_objects.proofs.BufferReferences.{carried_more}
-use Rattle.bd_objects.proofs.Homed.{ready_homed, only_one}
+use Rattle.bd_objects.proofs.Words.{IsHomed, None, RecordsAre, ap, append-nil, arith, buffer_references, subst, sym, take, take_all, ◌++◌, ◌∙◌}
+use Rattle.bd_objects.proofs.{BufferReferences.{carried_more}, Homed.{only_one, ready_homed}}
 use Rattle.bd_objects.proofs.delivery.add_carried.Goals as goal
 
 pub loop-i-init : goal.loop-i-init

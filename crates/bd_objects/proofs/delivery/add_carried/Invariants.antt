@@ -1,8 +1,4 @@
-use Rattle.std.proofs.Common.{◌++◌, take, List, None}
-use Rattle.bd_ways.specs.Words.{Object, Reference, Name}
-use Rattle.bd_space.specs.Delivery.{buffer_references}
-use Rattle.bd_records.specs.{Records.{RecordsAre}, Since.{Settled, KeepsSettled}, Room.{Uses}}
-use Rattle.bd_objects.specs.Delivery.{AreReady}
+use Rattle.bd_objects.proofs.Words.{AreReady, KeepsSettled, List, Name, None, Object, RecordsAre, Reference, Settled, Uses, buffer_references, take, ◌++◌}
 use Rattle.bd_objects.proofs.delivery.add_carried.Given as goal
 
 abbrev pub invariant-loop-i : goal.invariant-loop-i

@@ -1,8 +1,5 @@
-use Rattle.std.proofs.Common.{◌+◌, ◌++◌, [], length, None, ap, subst, sym, ◌∙◌, append_assoc, ◌≡◌, arith}
-use Rattle.bd_space.specs.Delivery.{buffer_references}
-use Rattle.bd_records.specs.Records.{RecordsAre}
-use Rattle.bd_objects.proofs.BufferReferences.{with_target}
-use Rattle.bd_objects.proofs.Spent.{then_uses}
+use Rattle.bd_objects.proofs.Words.{None, RecordsAre, [], ap, append_assoc, arith, buffer_references, length, subst, sym, ◌++◌, ◌+◌, ◌∙◌, ◌≡◌}
+use Rattle.bd_objects.proofs.{BufferReferences.{with_target}, Spent.{then_uses}}
 use Rattle.bd_objects.proofs.delivery.add_references.Goals as goal
 
 pub returns-clause-stands : goal.returns-clause-stands

@@ -1,4 +1,4 @@
-use Rattle.std.proofs.Common.{refl}
+use Rattle.bd_objects.proofs.Words.{refl}
 use Rattle.bd_objects.proofs.Homed.{plain_homed}
 use Rattle.bd_objects.proofs.delivery.add_target.Goals as goal
 

@@ -1,6 +1,4 @@
-use Rattle.std.proofs.Common.{rules}
-use Rattle.std.proofs.lemmas.List.Sorted.{answers_always}
-use Rattle.bd_keys.proofs.Rising.{searched}
+use Rattle.bd_objects.proofs.Words.{answers_always, rules, searched}
 use Rattle.bd_objects.proofs.Later.{ptr_of}
 use Rattle.bd_objects.proofs.made.index_of.Goals as goal
 

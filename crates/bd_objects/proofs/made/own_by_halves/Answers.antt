@@ -1,8 +1,5 @@
-use Rattle.std.proofs.Common.{◌==◌, sym, ap, ◌∙◌}
-use Rattle.bd_space.specs.declared.space.Object.{Object}
-use Rattle.bd_keys.proofs.Rising.{find_none, find_at, distinct}
-use Rattle.bd_records.specs.ObjectKeys.{kept}
-use Rattle.bd_objects.proofs.Later.{ptr_of, own_risen}
+use Rattle.bd_objects.proofs.Words.{Object, ap, distinct, find_at, find_none, kept, sym, ◌==◌, ◌∙◌}
+use Rattle.bd_objects.proofs.Later.{own_risen, ptr_of}
 use Rattle.bd_objects.proofs.made.own_by_halves.Goals as goal
 
 pub returns-in_err-i : goal.returns-in_err-i

@@ -1,5 +1,4 @@
-use Rattle.std.proofs.Common.{◌≡◌, drop}
-use Rattle.bd_space.specs.References.{own_in}
+use Rattle.bd_objects.proofs.Words.{drop, own_in, ◌≡◌}
 use Rattle.bd_objects.proofs.made.own_in.Given as goal
 
 abbrev pub invariant-loop-x : goal.invariant-loop-x

@@ -1,9 +1,5 @@
-use Rattle.std.proofs.Common.{◌∙◌, sym, subst}
-use Rattle.bd_space.specs.References.{owned_in}
-use Rattle.bd_records.specs.Since.{Settled}
-use Rattle.bd_objects.specs.Naming.{with_name_unless}
-use Rattle.bd_objects.proofs.Giving.{is_named, known_stays}
-use Rattle.bd_objects.proofs.Results.{on_err}
+use Rattle.bd_objects.proofs.Words.{Settled, owned_in, subst, sym, with_name_unless, ◌∙◌}
+use Rattle.bd_objects.proofs.{Giving.{is_named, known_stays}, Results.{on_err}}
 use Rattle.bd_objects.proofs.naming.give_asked_name.Goals as goal
 
 pub returns-then-eq-clause-names : goal.returns-then-eq-clause-names

@@ -1,8 +1,5 @@
-use Rattle.std.proofs.Common.{sym, subst}
-use Rattle.bd_records.specs.Numbers.{IsFull, with_number}
-use Rattle.bd_records.specs.Since.{Since}
-use Rattle.bd_objects.specs.Naming.{with_name_unless}
-use Rattle.bd_objects.proofs.Results.{then_ok, then_err}
+use Rattle.bd_objects.proofs.Words.{IsFull, Since, subst, sym, with_name_unless, with_number}
+use Rattle.bd_objects.proofs.Results.{then_err, then_ok}
 use Rattle.bd_objects.proofs.naming.give_name.Goals as goal
 
 pub returns-clause-stands : goal.returns-clause-stands

@@ -1,8 +1,5 @@
-use Rattle.std.proofs.Common.{◌∙◌, ◌++◌, sym, ap, subst, fold, take, arith}
-use Rattle.std.proofs.lemmas.List.{take_all}
-use Rattle.bd_records.specs.{Records.{RecordsAre}, Since.{Since, Settled}}
-use Rattle.bd_objects.proofs.Giving.{give, give_next, give_all, past_all, owned_alike, owned_before}
-use Rattle.bd_objects.proofs.Results.{on_err, of_ok, of_err}
+use Rattle.bd_objects.proofs.Words.{RecordsAre, Settled, Since, ap, arith, fold, subst, sym, take, take_all, ◌++◌, ◌∙◌}
+use Rattle.bd_objects.proofs.{Giving.{give, give_all, give_next, owned_alike, owned_before, past_all}, Results.{of_err, of_ok, on_err}}
 use Rattle.bd_objects.proofs.naming.give_names.Goals as goal
 
 pub loop-x-preserved : goal.loop-x-preserved

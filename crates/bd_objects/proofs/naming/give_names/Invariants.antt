@@ -1,8 +1,4 @@
-use Rattle.std.proofs.Common.{◌++◌, take, fold, List}
-use Rattle.bd_space.specs.declared.space.Name.{Name}
-use Rattle.bd_space.specs.declared.space.Object.{Object}
-use Rattle.bd_space.specs.declared.space.Reference.{Reference}
-use Rattle.bd_records.specs.{Records.{RecordsAre}, Since.{Since, Settled}, Room.{Uses}}
+use Rattle.bd_objects.proofs.Words.{List, Name, Object, RecordsAre, Reference, Settled, Since, Uses, fold, take, ◌++◌}
 use Rattle.bd_objects.proofs.Giving.{give}
 use Rattle.bd_objects.proofs.naming.give_names.Given as goal
 

@@ -1,7 +1,4 @@
-use Rattle.std.proofs.Common.{◌==◌, ◌&&◌, refl}
-use Rattle.std.proofs.lemmas.List.Folds.{list_any-append}
-use Rattle.bd_space.specs.declared.space.Object.{Object}
-use Rattle.bd_space.specs.Words.{same}
+use Rattle.bd_objects.proofs.Words.{Object, list_any-append, refl, same, ◌&&◌, ◌==◌}
 use Rattle.bd_objects.proofs.naming.is_own.Goals as goal
 
 pub returns-else-owns : goal.returns-else-owns

@@ -1,9 +1,4 @@
-use Rattle.std.proofs.Common.{◌≡◌, ℕ, ◌==◌, false, List, [], ◌∷◌, refl, sym, ◌∙◌}
-use Rattle.std.specs.List.{list_any}
-use Rattle.std.proofs.lemmas.Bool.{or_parts, or_from, and_right}
-use Rattle.bd_space.specs.declared.step.Identity.{Identity}
-use Rattle.bd_space.specs.declared.space.Object.{Object}
-use Rattle.bd_space.specs.References.{owned_in}
+use Rattle.bd_objects.proofs.Words.{Identity, List, Object, [], and_right, false, list_any, or_from, or_parts, owned_in, refl, sym, ℕ, ◌==◌, ◌∙◌, ◌∷◌, ◌≡◌}
 use Rattle.bd_objects.proofs.naming.made_by.Goals as goal
 
 none-owned : (xs : List Object) (p : ℕ) (o : Identity) → list_any (λ x. x.owner == p) xs ≡ false → owned_in xs p o ≡ false

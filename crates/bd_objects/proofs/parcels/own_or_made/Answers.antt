@@ -1,7 +1,4 @@
-use Rattle.std.proofs.Common.{◌==◌, ◌&&◌, refl}
-use Rattle.std.proofs.lemmas.List.Folds.{find-append}
-use Rattle.bd_space.specs.declared.space.Object.{Object}
-use Rattle.bd_objects.specs.Made.{made_items}
+use Rattle.bd_objects.proofs.Words.{Object, find-append, made_items, refl, ◌&&◌, ◌==◌}
 use Rattle.bd_objects.proofs.parcels.own_or_made.Goals as goal
 
 pub returns-in-Some : goal.returns-in-Some

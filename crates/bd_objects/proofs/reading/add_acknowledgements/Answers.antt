@@ -1,16 +1,7 @@
-use Rattle.std.proofs.Common.{◌≡◌, ℕ, ◌+◌, length, arith, Bool, true, false, List, [], ◌∷◌, ◌++◌, refl, sym, subst, append_assoc, append-nil}
-use Rattle.std.proofs.lemmas.Bool.{or_left, or_right}
-use Rattle.bd_ways.specs.Words.{Identity, Object, Reference, Handshake}
-use Rattle.bd_space.specs.References.{reference_of}
-use Rattle.bd_space.specs.ReadItems.{handshakes_for}
-use Rattle.bd_records.specs.declared.records.Records.{Records}
-use Rattle.bd_records.specs.Records.{RecordsAre, IsHomed}
-use Rattle.bd_objects.specs.{Reading.{owed}, New.{IsHere}}
-use Rattle.bd_objects.proofs.Homed.{plain_homed}
-use Rattle.bd_records.specs.{Since.{Settled}, Room.{Uses}}
-use Rattle.bd_objects.proofs.Spent.{none_used, then_uses, widened}
+use Rattle.bd_objects.proofs.Words.{Bool, Handshake, Identity, IsHere, IsHomed, List, Object, Records, RecordsAre, Reference, Settled, Uses, [], append-nil, append_assoc, arith, false, handshakes_for, length, or_left, or_right, owed, reference_of}
+use Rattle.bd_objects.proofs.Words.{refl, subst, sym, true, ℕ, ◌++◌, ◌+◌, ◌∷◌, ◌≡◌}
+use Rattle.bd_objects.proofs.{Homed.{plain_homed}, Spent.{none_used, then_uses, widened}, reading.{add_acknowledgements.{Goals.{else-weak, then-weak}}}}
 use Rattle.bd_objects.proofs.reading.add_acknowledgements.Goals as goal
-use Rattle.bd_objects.proofs.reading.add_acknowledgements.Goals.{then-weak, else-weak}
 
 both : (place k next : ℕ) (o : Identity) (weak strong : Bool) (l : List Reference) (a b : Reference) → weak ≡ true → strong ≡ true → a ≡ reference_of place k o false Handshake
     → next ≡ k + 1 → b ≡ reference_of place next o true Handshake → (l ++ a ∷ []) ++ b ∷ [] ≡ l ++ handshakes_for place k o (owed weak strong)

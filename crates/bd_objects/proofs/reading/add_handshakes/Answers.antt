@@ -1,7 +1,5 @@
-use Rattle.std.proofs.Common.{arith, take, subst, sym, refl, append-nil}
-use Rattle.bd_records.specs.Records.{RecordsAre}
-use Rattle.bd_objects.proofs.Holding.{holds_alike}
-use Rattle.bd_objects.proofs.Handshakes.{handshakes_next}
+use Rattle.bd_objects.proofs.Words.{RecordsAre, append-nil, arith, refl, subst, sym, take}
+use Rattle.bd_objects.proofs.{Handshakes.{handshakes_next}, Holding.{holds_alike}}
 use Rattle.bd_objects.proofs.reading.add_handshakes.Goals as goal
 
 pub loop-w-init : goal.loop-w-init

@@ -1,7 +1,4 @@
-use Rattle.std.proofs.Common.{◌≡◌, ◌*◌, ◌≤◌, ◌++◌, take, length}
-use Rattle.bd_space.specs.Space.{Space}
-use Rattle.bd_space.specs.ReadItems.{handshakes}
-use Rattle.bd_records.specs.{Records.{RecordsAre}, Since.{KeepsSettled}, Room.{Uses}}
+use Rattle.bd_objects.proofs.Words.{KeepsSettled, RecordsAre, Space, Uses, handshakes, length, take, ◌*◌, ◌++◌, ◌≡◌, ◌≤◌}
 use Rattle.bd_objects.proofs.reading.add_handshakes.Given as goal
 
 abbrev pub invariant-loop-w : goal.invariant-loop-w

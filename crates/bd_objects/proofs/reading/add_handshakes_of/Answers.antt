@@ -1,13 +1,6 @@
-use Rattle.std.proofs.Common.{◌≡◌, ℕ, ◌+◌, ◌++◌, List, [], length, refl, ap, sym, ◌∙◌, subst, append-nil, arith}
-use Rattle.bd_space.specs.Space.{Space}
-use Rattle.bd_space.specs.declared.step.Identity.{Identity}
-use Rattle.bd_space.specs.declared.space.{Reference.{Reference}, WorkKind.{WorkKind}}
+use Rattle.bd_objects.proofs.Words.{Identity, List, Records, RecordsAre, Reference, Space, WorkKind, [], ap, append-nil, arith, handshakes_of, length, refl, subst, sym, ℕ, ◌++◌, ◌+◌, ◌∙◌, ◌≡◌}
+use Rattle.bd_objects.proofs.{Holding.{handshakes_notice}, Spent.{none_used}}
 use Rattle.bd_space.specs.declared.space.WorkKind.TheVariants as work
-use Rattle.bd_space.specs.ReadItems.{handshakes_of}
-use Rattle.bd_records.specs.declared.records.Records.{Records}
-use Rattle.bd_records.specs.Records.{RecordsAre}
-use Rattle.bd_objects.proofs.Holding.{handshakes_notice}
-use Rattle.bd_objects.proofs.Spent.{none_used}
 use Rattle.bd_objects.proofs.reading.add_handshakes_of.Goals as goal
 
 pub returns-clause-stands : goal.returns-clause-stands

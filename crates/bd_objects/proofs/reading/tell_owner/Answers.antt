@@ -1,6 +1,5 @@
-use Rattle.std.proofs.Common.{subst, arith}
-use Rattle.bd_records.specs.Records.{RecordsAre}
-use Rattle.bd_objects.proofs.Owners.{told_one, told_nobody}
+use Rattle.bd_objects.proofs.Words.{RecordsAre, arith, subst}
+use Rattle.bd_objects.proofs.Owners.{told_nobody, told_one}
 use Rattle.bd_objects.proofs.reading.tell_owner.Goals as goal
 
 pub returns-in-Some-clause-stands : goal.returns-in-Some-clause-stands

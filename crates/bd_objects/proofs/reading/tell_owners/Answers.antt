@@ -1,9 +1,5 @@
-use Rattle.std.proofs.Common.{subst, arith}
-use Rattle.std.proofs.lemmas.List.{take_all}
-use Rattle.bd_space.specs.Words.{changed}
-use Rattle.bd_space.specs.ReadItems.{is_told_by, told_of}
-use Rattle.bd_records.specs.Records.{RecordsAre}
-use Rattle.bd_objects.proofs.Owners.{told_none, told_more}
+use Rattle.bd_objects.proofs.Words.{RecordsAre, arith, changed, is_told_by, subst, take_all, told_of}
+use Rattle.bd_objects.proofs.Owners.{told_more, told_none}
 use Rattle.bd_objects.proofs.reading.tell_owners.Goals as goal
 
 pub loop-w-init : goal.loop-w-init

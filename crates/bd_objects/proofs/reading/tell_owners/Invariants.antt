@@ -1,9 +1,4 @@
-use Rattle.std.proofs.Common.{take, List}
-use Rattle.bd_space.specs.Words.{changed}
-use Rattle.bd_space.specs.ReadItems.{is_told_by, told_of}
-use Rattle.bd_space.specs.declared.space.Object.{Object}
-use Rattle.bd_space.specs.declared.space.Reference.{Reference}
-use Rattle.bd_records.specs.{Records.{RecordsAre}, Since.{KeepsSettled}, Room.{Uses}}
+use Rattle.bd_objects.proofs.Words.{KeepsSettled, List, Object, RecordsAre, Reference, Uses, changed, is_told_by, take, told_of}
 use Rattle.bd_objects.proofs.reading.tell_owners.Given as goal
 
 abbrev pub invariant-loop-w : goal.invariant-loop-w

@@ -1,5 +1,4 @@
-use Rattle.std.proofs.Common.{sym, ◌∙◌}
-use Rattle.bd_objects.specs.Made.{made_items}
+use Rattle.bd_objects.proofs.Words.{made_items, sym, ◌∙◌}
 use Rattle.bd_objects.proofs.Later.{found_split, none_above}
 use Rattle.bd_objects.proofs.made.Made.find_own.Goals as goal
 

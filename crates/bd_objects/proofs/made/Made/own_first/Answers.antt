@@ -1,6 +1,4 @@
-use Rattle.std.proofs.Common.{take, ap, subst, sym, ◌∙◌}
-use Rattle.bd_space.specs.References.{own_in}
-use Rattle.bd_objects.specs.Later.{IsRising}
+use Rattle.bd_objects.proofs.Words.{IsRising, ap, own_in, subst, sym, take, ◌∙◌}
 use Rattle.bd_objects.proofs.made.Made.own_first.Goals as goal
 
 pub returns-then-self : goal.returns-then-self

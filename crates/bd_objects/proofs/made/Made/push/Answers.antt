@@ -1,8 +1,6 @@
-use Rattle.std.proofs.Common.{◌≡◌, ◌≤◌, ◌||◌, ◌∷◌, [], nat_lt, length, vec_len, arith, ap, sym, ◌∙◌, length-append}
-use Rattle.bd_objects.specs.Later.{few}
-use Rattle.bd_objects.proofs.Later.{finds_all, finds_more, low_push, all_first, all_rise, still_rise}
+use Rattle.bd_objects.proofs.Words.{[], ap, arith, few, length, length-append, nat_lt, sym, vec_len, ◌||◌, ◌∙◌, ◌∷◌, ◌≡◌, ◌≤◌}
+use Rattle.bd_objects.proofs.{Later.{all_first, all_rise, finds_all, finds_more, low_push, still_rise}, made.{Made.{push.{Goals.{else-first, then-first}}}}}
 use Rattle.bd_objects.proofs.made.Made.push.Goals as goal
-use Rattle.bd_objects.proofs.made.Made.push.Goals.{then-first, else-first}
 
 pub invariant_of-self : goal.invariant_of-self
 invariant_of-self c =

@@ -1,18 +1,5 @@
-use Rattle.std.proofs.Common.{◌∙◌, [], ◌∷◌, ◌++◌, refl, sym, ap, subst, arith}
-use Rattle.bd_space.specs.declared.space.Holder.TheVariants.{Asked}
-use Rattle.bd_space.specs.References.{reference_of}
-use Rattle.bd_space.specs.Names.{is_managers, assign_numbers, names_go}
-use Rattle.bd_space.specs.Asking.{ask}
-use Rattle.bd_records.specs.{Records.{RecordsAre}, Since.{Settled}}
-use Rattle.bd_records.specs.Numbers.{IsFull}
-use Rattle.bd_objects.specs.Naming.{with_other_name}
-use Rattle.bd_objects.specs.Numbers.{IsPastLimit}
-use Rattle.bd_objects.proofs.Giving.{same_name, past_one, given_other}
-use Rattle.bd_objects.proofs.Homed.{asked_homed, named_row}
-use Rattle.bd_objects.proofs.Referring.{referred_asked}
-use Rattle.bd_objects.proofs.Results.{on_err}
-use Rattle.bd_objects.specs.Room.{rooms}
-use Rattle.bd_objects.proofs.Spent.{then_uses}
+use Rattle.bd_objects.proofs.Words.{Asked, IsFull, IsPastLimit, RecordsAre, Settled, [], ap, arith, ask, assign_numbers, is_managers, names_go, reference_of, refl, rooms, subst, sym, with_other_name, ◌++◌, ◌∙◌, ◌∷◌}
+use Rattle.bd_objects.proofs.{Giving.{given_other, past_one, same_name}, Homed.{asked_homed, named_row}, Referring.{referred_asked}, Results.{on_err}, Spent.{then_uses}}
 use Rattle.bd_objects.proofs.table.ObjectTable.ask.Goals as goal
 
 pub returns-clause-ok : goal.returns-clause-ok

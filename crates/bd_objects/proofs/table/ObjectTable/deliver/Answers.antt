@@ -1,15 +1,5 @@
-use Rattle.std.proofs.Common.{◌+◌, length, ◌∙◌, ◌++◌, map, fold, sym, ap, subst, arith}
-use Rattle.bd_space.specs.Names.{assign_numbers, names_go}
-use Rattle.bd_space.specs.Parcels.{object_of_item}
-use Rattle.bd_space.specs.Delivery.{make_objects, refer, buffer_references}
-use Rattle.bd_records.specs.{Records.{RecordsAre}, Since.{Settled}}
-use Rattle.bd_objects.specs.Naming.{with_other_name}
-use Rattle.bd_objects.specs.Numbers.{IsPastLimit}
-use Rattle.bd_objects.proofs.Giving.{same_names, given_ready}
-use Rattle.bd_objects.proofs.Referring.{referred_carried}
-use Rattle.bd_objects.proofs.Results.{on_err}
-use Rattle.bd_objects.specs.Room.{rooms}
-use Rattle.bd_objects.proofs.Spent.{then_uses}
+use Rattle.bd_objects.proofs.Words.{IsPastLimit, RecordsAre, Settled, ap, arith, assign_numbers, buffer_references, fold, length, make_objects, map, names_go, object_of_item, refer, rooms, subst, sym, with_other_name, ◌++◌, ◌+◌, ◌∙◌}
+use Rattle.bd_objects.proofs.{Giving.{given_ready, same_names}, Referring.{referred_carried}, Results.{on_err}, Spent.{then_uses}}
 use Rattle.bd_objects.proofs.table.ObjectTable.deliver.Goals as goal
 
 pub returns-clause-ok : goal.returns-clause-ok

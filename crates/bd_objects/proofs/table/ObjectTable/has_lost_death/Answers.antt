@@ -1,5 +1,4 @@
-use Rattle.std.proofs.Common.{refl, arith}
-use Rattle.bd_space.specs.Notices.{is_name_of}
+use Rattle.bd_objects.proofs.Words.{arith, is_name_of, refl}
 use Rattle.bd_objects.proofs.Lost.{any_lost}
 use Rattle.bd_objects.proofs.table.ObjectTable.has_lost_death.Goals as goal
 

@@ -1,8 +1,4 @@
-use Rattle.std.proofs.Common.{ap, sym, ◌∙◌}
-use Rattle.std.specs.Option.{is_some}
-use Rattle.bd_space.specs.declared.space.Name.{Name}
-use Rattle.bd_records.specs.Sound.{has_object}
-use Rattle.bd_records.proofs.Freeing.{any_is_some}
+use Rattle.bd_objects.proofs.Words.{Name, any_is_some, ap, has_object, is_some, sym, ◌∙◌}
 use Rattle.bd_objects.proofs.table.ObjectTable.has_name.Goals as goal
 
 pub returns : goal.returns

@@ -1,4 +1,4 @@
-use Rattle.std.proofs.Common.{◌∙◌, sym}
+use Rattle.bd_objects.proofs.Words.{sym, ◌∙◌}
 use Rattle.bd_objects.proofs.table.ObjectTable.is_strongly_named.Goals as goal
 
 pub returns-then-not-owns : goal.returns-then-not-owns

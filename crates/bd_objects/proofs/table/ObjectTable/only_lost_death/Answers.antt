@@ -1,5 +1,5 @@
-use Rattle.std.proofs.Common.{◌∙◌, sym}
-use Rattle.bd_objects.proofs.Lost.{none_lost, named_lost, one_lost, item_stays}
+use Rattle.bd_objects.proofs.Words.{sym, ◌∙◌}
+use Rattle.bd_objects.proofs.Lost.{item_stays, named_lost, none_lost, one_lost}
 use Rattle.bd_objects.proofs.table.ObjectTable.only_lost_death.Goals as goal
 
 pub returns-in_err-x-clause-found : goal.returns-in_err-x-clause-found

@@ -1,8 +1,5 @@
-use Rattle.std.proofs.Common.{◌++◌, subst}
-use Rattle.bd_space.specs.ReadItems.{read_by, handshakes}
-use Rattle.bd_records.specs.Records.{RecordsAre}
-use Rattle.bd_objects.proofs.Owners.{told_alike}
-use Rattle.bd_objects.proofs.Holding.{holds_alike}
+use Rattle.bd_objects.proofs.Words.{RecordsAre, handshakes, read_by, subst, ◌++◌}
+use Rattle.bd_objects.proofs.{Holding.{holds_alike}, Owners.{told_alike}}
 use Rattle.bd_objects.proofs.table.ObjectTable.read_by.Goals as goal
 
 pub returns-clause-stands : goal.returns-clause-stands

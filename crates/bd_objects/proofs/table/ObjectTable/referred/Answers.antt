@@ -1,4 +1,4 @@
-use Rattle.bd_objects.proofs.Results.{then_ok, then_err}
+use Rattle.bd_objects.proofs.Results.{then_err, then_ok}
 use Rattle.bd_objects.proofs.table.ObjectTable.referred.Goals as goal
 
 pub returns-clause-pushed : goal.returns-clause-pushed

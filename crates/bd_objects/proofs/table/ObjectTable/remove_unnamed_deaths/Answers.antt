@@ -1,6 +1,4 @@
-use Rattle.std.proofs.Common.{sym, subst, ◌∙◌}
-use Rattle.bd_ways.specs.Local.{deaths_go_of}
-use Rattle.bd_deaths.specs.Stands.{DeathsAre}
+use Rattle.bd_objects.proofs.Words.{DeathsAre, deaths_go_of, subst, sym, ◌∙◌}
 use Rattle.bd_objects.proofs.Lost.{left_lost}
 use Rattle.bd_objects.proofs.table.ObjectTable.remove_unnamed_deaths.Goals as goal
 

@@ -1,9 +1,5 @@
-use Rattle.std.proofs.Common.{◌≡◌, ℕ, Bool, true, false, not, ◌||◌, filter, refl, subst}
-use Rattle.bd_space.specs.{Space.{Space}, declared.space.Name.{Name}, declared.step.Identity.{Identity}}
-use Rattle.bd_space.specs.Names.{is_named_in}
-use Rattle.bd_ways.specs.Local.{names_go_of, at_name}
-use Rattle.bd_records.specs.{declared.records.Records.{Records}, Since.{Settled}}
-use Rattle.bd_objects.proofs.AtName.{named_at, all_stay, all_go}
+use Rattle.bd_objects.proofs.Words.{Bool, Identity, Name, Records, Settled, Space, at_name, false, filter, is_named_in, names_go_of, not, refl, subst, true, ℕ, ◌||◌, ◌≡◌}
+use Rattle.bd_objects.proofs.AtName.{all_go, all_stay, named_at}
 use Rattle.bd_objects.proofs.table.ObjectTable.remove_unused_name.Goals as goal
 
 -- the name stays or goes, and the others stay

@@ -1,12 +1,5 @@
-use Rattle.std.proofs.Common.{◌≡◌, Bool, true, false, cond, not, List, [], ◌∷◌, None, filter, refl, ap, sym, subst, ◌∙◌}
-use Rattle.bd_space.specs.declared.step.Identity.{Identity}
-use Rattle.bd_space.specs.declared.space.Object.{Object}
-use Rattle.bd_space.specs.Words.{same}
-use Rattle.bd_space.specs.References.{object_in, stays_in}
-use Rattle.bd_ways.specs.Local.{objects_go_of}
-use Rattle.bd_records.specs.Records.{RecordsAre}
-use Rattle.bd_objects.proofs.Apart.{apart_some, apart_none, unheld}
-use Rattle.bd_objects.specs.Telling.{owner_due}
+use Rattle.bd_objects.proofs.Words.{Bool, Identity, List, None, Object, RecordsAre, [], ap, cond, false, filter, not, object_in, objects_go_of, owner_due, refl, same, stays_in, subst, sym, true, ◌∙◌, ◌∷◌, ◌≡◌}
+use Rattle.bd_objects.proofs.Apart.{apart_none, apart_some, unheld}
 use Rattle.bd_objects.proofs.table.ObjectTable.remove_unused_object.Goals as goal
 
 -- what is left out isn't found

@@ -1,7 +1,6 @@
-use Rattle.std.proofs.Common.{sym, subst}
-use Rattle.bd_objects.specs.Stands.{StandsFor}
+use Rattle.bd_objects.proofs.Words.{StandsFor, subst, sym}
+use Rattle.bd_objects.proofs.table.{ObjectTable.{reserve_ahead.{Goals.{then-not-is_within-via-else-not-is_within+then-is_err, then-not-is_within-via-then-not-is_within}}}}
 use Rattle.bd_objects.proofs.table.ObjectTable.reserve_ahead.Goals as goal
-use Rattle.bd_objects.proofs.table.ObjectTable.reserve_ahead.Goals.{then-not-is_within-via-then-not-is_within, then-not-is_within-via-else-not-is_within+then-is_err}
 
 pub returns-then-not-is_within-clause-stands : goal.returns-then-not-is_within-clause-stands
 returns-then-not-is_within-clause-stands c = λ s h. elim c.then-not-is_within.branch [

@@ -1,7 +1,6 @@
-use Rattle.std.proofs.Common.{sym, subst}
-use Rattle.bd_objects.specs.Stands.{StandsFor}
+use Rattle.bd_objects.proofs.Words.{StandsFor, subst, sym}
+use Rattle.bd_objects.proofs.table.{ObjectTable.{reserve_beside_names.{Goals.{then-is_within-via-else-is_within+then-reserve_ahead, then-is_within-via-then-is_within}}}}
 use Rattle.bd_objects.proofs.table.ObjectTable.reserve_beside_names.Goals as goal
-use Rattle.bd_objects.proofs.table.ObjectTable.reserve_beside_names.Goals.{then-is_within-via-then-is_within, then-is_within-via-else-is_within+then-reserve_ahead}
 
 pub returns-then-is_within-clause-stands : goal.returns-then-is_within-clause-stands
 returns-then-is_within-clause-stands c = λ s h. elim c.then-is_within.branch [

@@ -1,7 +1,6 @@
-use Rattle.std.proofs.Common.{sym, subst}
-use Rattle.bd_objects.specs.Stands.{StandsFor}
+use Rattle.bd_objects.proofs.Words.{StandsFor, subst, sym}
+use Rattle.bd_objects.proofs.table.{ObjectTable.{reserve_names.{Goals.{then-names-eq0-via-else-names-eq0+else-sure+then-reserve_names_ahead, then-names-eq0-via-else-names-eq0+then-sure, then-names-eq0-via-then-names-eq0}}}}
 use Rattle.bd_objects.proofs.table.ObjectTable.reserve_names.Goals as goal
-use Rattle.bd_objects.proofs.table.ObjectTable.reserve_names.Goals.{then-names-eq0-via-then-names-eq0, then-names-eq0-via-else-names-eq0+then-sure, then-names-eq0-via-else-names-eq0+else-sure+then-reserve_names_ahead}
 
 pub returns-then-names-eq0-clause-stands : goal.returns-then-names-eq0-clause-stands
 returns-then-names-eq0-clause-stands c = λ s h. elim c.then-names-eq0.branch [

@@ -1,7 +1,6 @@
-use Rattle.std.proofs.Common.{sym, subst}
-use Rattle.bd_objects.specs.Stands.{StandsFor}
+use Rattle.bd_objects.proofs.Words.{StandsFor, subst, sym}
+use Rattle.bd_objects.proofs.table.{ObjectTable.{reserve_names_ahead.{Goals.{then-names-gt-AHEAD-via-else-names-gt-AHEAD+then-is_err, then-names-gt-AHEAD-via-then-names-gt-AHEAD}}}}
 use Rattle.bd_objects.proofs.table.ObjectTable.reserve_names_ahead.Goals as goal
-use Rattle.bd_objects.proofs.table.ObjectTable.reserve_names_ahead.Goals.{then-names-gt-AHEAD-via-then-names-gt-AHEAD, then-names-gt-AHEAD-via-else-names-gt-AHEAD+then-is_err}
 
 pub returns-then-names-gt-AHEAD-clause-stands : goal.returns-then-names-gt-AHEAD-clause-stands
 returns-then-names-gt-AHEAD-clause-stands c = λ s h. elim c.then-names-gt-AHEAD.branch [

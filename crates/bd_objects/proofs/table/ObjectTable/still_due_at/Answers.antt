@@ -1,6 +1,4 @@
-use Rattle.std.proofs.Common.{◌≡◌, ◌==◌, ◌∙◌, ◌||◌, not, false, true, ap, sym, subst}
-use Rattle.bd_space.specs.{Words.{is_some_and}, Todo.{death_of}, Notices.{still_due}}
-use Rattle.bd_ways.specs.Local.{deaths_go_of, at_name, is_touched}
+use Rattle.bd_objects.proofs.Words.{ap, at_name, death_of, deaths_go_of, false, is_some_and, is_touched, not, still_due, subst, sym, true, ◌==◌, ◌||◌, ◌∙◌, ◌≡◌}
 use Rattle.bd_objects.proofs.Lost.{all_stay}
 use Rattle.bd_objects.proofs.table.ObjectTable.still_due_at.Goals as goal
 

@@ -1,7 +1,4 @@
-use Rattle.std.proofs.Common.{refl, sym, subst}
-use Rattle.bd_space.specs.ProcessExits.{tell_deaths}
-use Rattle.bd_records.specs.{Records.{RecordsAre}, Since.{Settled}}
-use Rattle.bd_deaths.specs.Stands.{DeathsAre}
+use Rattle.bd_objects.proofs.Words.{DeathsAre, RecordsAre, Settled, refl, subst, sym, tell_deaths}
 use Rattle.bd_objects.proofs.Telling.{Told_all}
 use Rattle.bd_objects.proofs.table.ObjectTable.tell_deaths.Goals as goal
 

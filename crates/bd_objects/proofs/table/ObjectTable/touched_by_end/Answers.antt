@@ -1,9 +1,5 @@
-use Rattle.std.proofs.lemmas.Bool.{or_left, or_right}
-use Rattle.std.specs.Prelude.{◌==◌}
-use Rattle.bd_space.specs.declared.space.Object.{Object}
-use Rattle.bd_objects.proofs.Covering.{has_dropped, only_dropped, any_dropped}
-use Rattle.bd_objects.proofs.Ending.{some_pass, same_all, all_same}
-use Rattle.bd_objects.proofs.Results.{on_err, then_ok, then_err}
+use Rattle.bd_objects.proofs.Words.{Object, or_left, or_right, ◌==◌}
+use Rattle.bd_objects.proofs.{Covering.{any_dropped, has_dropped, only_dropped}, Ending.{all_same, same_all, some_pass}, Results.{on_err, then_err, then_ok}}
 use Rattle.bd_objects.proofs.table.ObjectTable.touched_by_end.Goals as goal
 
 pub returns-clause-all : goal.returns-clause-all

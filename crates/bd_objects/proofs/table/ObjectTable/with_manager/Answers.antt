@@ -1,11 +1,5 @@
-use Rattle.std.proofs.Common.{ℕ, true, [], ◌∷◌, ◌++◌, refl, ap, sym, subst, ◌∙◌, arith}
-use Rattle.bd_ways.specs.Words.{Identity, Object, Reference, Manager}
-use Rattle.bd_space.specs.References.{object_in, reference_of}
-use Rattle.bd_space.specs.Steps.{with_manager}
-use Rattle.bd_records.specs.Records.{RecordsAre}
-use Rattle.bd_objects.proofs.Homed.{plain_homed, here_last}
-use Rattle.bd_objects.specs.Room.{rooms}
-use Rattle.bd_objects.proofs.Spent.{then_uses}
+use Rattle.bd_objects.proofs.Words.{Identity, Manager, Object, RecordsAre, Reference, [], ap, arith, object_in, reference_of, refl, rooms, subst, sym, true, with_manager, ℕ, ◌++◌, ◌∙◌, ◌∷◌}
+use Rattle.bd_objects.proofs.{Homed.{here_last, plain_homed}, Spent.{then_uses}}
 use Rattle.bd_objects.proofs.table.ObjectTable.with_manager.Goals as goal
 
 -- the context manager's, of this process

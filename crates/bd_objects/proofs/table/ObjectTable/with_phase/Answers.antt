@@ -1,4 +1,4 @@
-use Rattle.bd_space.specs.Deaths.{with_phase}
+use Rattle.bd_objects.proofs.Words.{with_phase}
 use Rattle.bd_objects.proofs.table.ObjectTable.with_phase.Goals as goal
 
 pub returns-clause-stands : goal.returns-clause-stands

@@ -1,4 +1,4 @@
-use Rattle.bd_space.specs.Freeing.{without_buffer}
+use Rattle.bd_objects.proofs.Words.{without_buffer}
 use Rattle.bd_objects.proofs.table.ObjectTable.without_buffer.Goals as goal
 
 pub returns-clause-stands : goal.returns-clause-stands

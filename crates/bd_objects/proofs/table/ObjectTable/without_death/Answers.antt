@@ -1,4 +1,4 @@
-use Rattle.bd_space.specs.Deaths.{without_death}
+use Rattle.bd_objects.proofs.Words.{without_death}
 use Rattle.bd_objects.proofs.table.ObjectTable.without_death.Goals as goal
 
 pub returns-clause-stands : goal.returns-clause-stands

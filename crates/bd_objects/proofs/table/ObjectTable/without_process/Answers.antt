@@ -1,8 +1,5 @@
-use Rattle.std.proofs.Common.{◌≡◌, None, subst, sym}
-use Rattle.bd_space.specs.ProcessExits.{without_process}
-use Rattle.bd_records.specs.{Records.{RecordsAre}, Buffers.{list_of, window_list}}
-use Rattle.bd_objects.proofs.Owned.{goes_with}
-use Rattle.bd_objects.proofs.Ending.{none_named}
+use Rattle.bd_objects.proofs.Words.{None, RecordsAre, list_of, subst, sym, window_list, without_process, ◌≡◌}
+use Rattle.bd_objects.proofs.{Ending.{none_named}, Owned.{goes_with}}
 use Rattle.bd_objects.proofs.table.ObjectTable.without_process.Goals as goal
 
 pub returns-clause-stands : goal.returns-clause-stands
