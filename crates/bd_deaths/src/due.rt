@@ -5,7 +5,7 @@ ghost use Rattle.std.specs.{List.{list_any}, List.Sorted.{IsStrictlyIncreasing}}
 ghost use Rattle.bd_space.specs.declared.space.Object.{Object};
 ghost use Rattle.bd_space.specs.declared.space.DeathNotification as declared;
 ghost use Rattle.bd_deaths.specs.Objects.{ObjectsAre};
-ghost use Rattle.bd_deaths.specs.Entries.{kept_at};
+ghost use Rattle.bd_deaths.specs.Entries.{kept_at, object_number};
 ghost use Rattle.bd_deaths.specs.Due as due;
 ghost use Rattle.bd_deaths.specs.Numbers as numbers;
 
@@ -13,7 +13,7 @@ use crate::kept::{Kept, Watch};
 use crate::table::DeathTable;
 use bd_chains::{Items, Numbering};
 use bd_records::Records;
-use bd_space::{DeathNotification, Phase};
+use bd_space::{DeathNotification, Identity, Phase};
 use std::alloc::{AllocError, Global};
 
 // The place of a slot in a number.
@@ -65,6 +65,17 @@ impl DeathTable {
         Ok(())
     }
 
+    // The number of the list of those on an object.
+    pub(crate) fn list_on(&self, o: Identity) -> Option<usize>
+        ensures { result ≡ object_number self.now o }
+    {
+        // Mostly there is none at all.
+        if self.objects.numbers.all.is_empty() {
+            return None;
+        }
+        self.objects.numbers.of(o)
+    }
+
     // Puts the numbers of those that are due to what is there, in some order.
     fn push_due(&self, records: &Records, p: u64, found: &mut Vec<u128>) -> Result<(), AllocError>
         ensures put { OnOk result ((objects : List Object) (es : List Entry) → ObjectsAre records.now objects
@@ -74,7 +85,7 @@ impl DeathTable {
             → ObjectsAre records.now objects → DeathsAre self.now l → list_any (due.is_due objects p) l ≡ true) }
     {
         for o in records.listed(p) {
-            let number = self.objects.numbers.of(o);
+            let number = self.list_on(o);
             self.push_armed(p, self.objects.chains.items_on(number), found)?;
         }
         Ok(())

@@ -15,7 +15,7 @@ ghost use Rattle.bd_deaths.specs.Changes as changes;
 use crate::kept::{Kept, Watch};
 use crate::sharers::turn_sharer;
 use crate::table::{DeathTable, forget_name};
-use bd_chains::{Items, Numbering};
+use bd_chains::Items;
 use bd_records::Records;
 use bd_space::{Identity, Phase, Work, WorkKind};
 use slab::Slab;
@@ -143,7 +143,7 @@ impl DeathTable {
         ensures stands { Makes self.old self.new (due.queued_on (o ∷ [])) }
         ensures uses { Uses self.old self.new 0 }
     {
-        let number = self.objects.numbers.of(o);
+        let number = self.list_on(o);
         queue_each(&mut self.slots, self.objects.chains.items_on(number));
     }
 

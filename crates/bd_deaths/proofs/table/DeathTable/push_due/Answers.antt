@@ -26,7 +26,7 @@ loop-o-preserved c =
     let t = c.args.self.now in
     record {
       put = λ es h n.
-          let ws = c.items_on.ensures (map object_row es) h.on_objects.holds ∙ watches_are c.in-Some.o t es h c.of-number.result (sym c.of-number.ensures) in
+          let ws = c.items_on.ensures (map object_row es) h.on_objects.holds ∙ watches_are c.in-Some.o t es h c.list_on-number.result (sym c.list_on-number.ensures) in
           c.in_ok-push_armed.ensures.put n ∙ ap (λ ws. has c.loop-o.found.items n || list_any (is_at t c.args.p n) ws) ws ∙ ap (λ b. has c.loop-o.found.items n || b) (numbers_on t c.args.p c.in-Some.o es h n)
           ∙ joined _ _ _ (c.loop-o.invariant.put es h n) (more_found c.args.p c.loop-o.yielded c.in-Some.o n es);
       all = λ i h. c.loop-o.invariant.all i (ap (λ os. is_among os i) (first_of c.loop-o.o-iterator c.next.result c.in-Some.o c.next.new.self c.next.ensures.steps c.in-Some.is) ∙ or_right (same i c.in-Some.o) (is_among c.next.new.self i) h);
@@ -39,7 +39,7 @@ returns-in_err-push_armed-clause-grown c =
     rw (err_from_is_err_and c.from_residual.result c.from_residual.ensures.1).1
     (λ objects l ns h.
     let es = h.entries in
-    let ws = c.items_on.ensures (map object_row es) h.are.on_objects.holds ∙ watches_are o t es h.are c.of-number.result (sym c.of-number.ensures) in
+    let ws = c.items_on.ensures (map object_row es) h.are.on_objects.holds ∙ watches_are o t es h.are c.list_on-number.result (sym c.list_on-number.ensures) in
     subst (λ l. list_any (is_due objects c.args.p) l ≡ true) h.deaths_are
     (some_due objects c.args.p o
     (subst (λ os. is_among os o ≡ true) (c.into_iter-o-iterator.ensures.into_iter_gives ∙ c.listed-o-items.ensures objects ns.0 ns.1)
