@@ -1,7 +1,7 @@
 -- Objects that come and go.
 use Rattle.bd_records.proofs.Words.{Bool, Count, CountsAre, Identity, List, NameRow, None, Object, ObjectRow, Option, Reference, Some, [], ap, arith, carried_of, cond, count_by, false, filter, held_in, is_asking, is_carrying, is_managing, is_owner, is_shaking, is_to, managed_of, no_count, not}
 use Rattle.bd_records.proofs.Words.{object_in, of_strength, option_map, or_parts, owed_of, owned_in, refl, same, same_eq, subst, sum_by-cons, sym, total_of, true, ℕ, ◌&&◌, ◌++◌, ◌==◌, ◌||◌, ◌∙◌, ◌∷◌, ◌≡◌, ◌≤◌}
-use Rattle.bd_records.proofs.Asked.{none_count}
+use Rattle.bd_records.proofs.{Asked.{none_count}, Tallies.{none_of_either}}
 
 abbrev pub object_of : ObjectRow → Object
 object_of w = w.object
@@ -70,19 +70,10 @@ no_object : (w : Option ObjectRow) → None ≡ option_map object_of w → w ≡
 no_object None h = refl
 no_object (Some v) h = absurd cc
 
-zero_of : (s : Bool) → of_strength s no_count ≡ 0
-zero_of true = refl
-zero_of false = refl
-
 -- of fewer there is none either
 none_below : (f g : Reference → Bool) → ((x : Reference) → f x ≡ true → g x ≡ true) → (l : List Reference) → count_by g l ≡ 0 → count_by f l ≡ 0
 none_below f g so [] e = refl
-none_below f g so (x ∷ l) e = at (f x) refl (g x) refl (none_below f g so l)
-  where
-    at : (b : Bool) → f x ≡ b → (c : Bool) → g x ≡ c → (count_by g l ≡ 0 → count_by f l ≡ 0) → count_by f (x ∷ l) ≡ 0
-    at true a false d more = absurd (let k = so x a in cc)
-    at b a true d more = absurd (grind (arith, e, d, sum_by-cons (λ z. cond (g z) 1 0) x l))
-    at false a false d more = grind (arith, a, d, e, more, sum_by-cons (λ z. cond (f z) 1 0) x l, sum_by-cons (λ z. cond (g z) 1 0) x l)
+none_below f g so (x ∷ l) e = grind (arith, e, none_below f g so l, so x, sum_by-cons (λ z. cond (f z) 1 0) x l, sum_by-cons (λ z. cond (g z) 1 0) x l)
 
 -- ---- the relation
 
@@ -126,7 +117,7 @@ module _ (O O' : Identity → Option ObjectRow) (N : ℕ → Identity → Option
         none_asked p o s true e own = h.unasked p o s e
         none_asked p o s false e own =
             let on : same x.id o ≡ true = grind (arith, own) in
-            none_below (is_asking p o s) (is_to o s) (λ y k. grind (arith, k)) l (sym (h.totals o s) ∙ ap (λ w. of_strength s (total_of w)) (none_at o on) ∙ zero_of s)
+            none_below (is_asking p o s) (is_to o s) (λ y k. grind (arith, k)) l (sym (h.totals o s) ∙ ap (λ w. of_strength s (total_of w)) (none_at o on) ∙ none_of_either s)
 
         kept : (f : Option ObjectRow → Count) → f None ≡ no_count → f (Some (record { object = x; total = no_count; owed = no_count; managed = no_count })) ≡ no_count → (o : Identity) (s : Bool) → of_strength s (f (O' o)) ≡ of_strength s (f (O o))
         kept f a b o s = ap (of_strength s) (at (same x.id o) refl)
@@ -154,36 +145,28 @@ module _ (O O' : Identity → Option ObjectRow) (N : ℕ → Identity → Option
     nothing_to : (y : Identity) → same o y ≡ true → (f : Reference → Bool) → ((x : Reference) → f x ≡ true → same x.object y ≡ true) → count_by f l ≡ 0
     nothing_to y e f to = none_count f (λ r. same r.object o) (λ x k. subst (λ z. same x.object z ≡ true) (sym (same_eq o y e)) (to x k)) l unheld
 
-    gone_row : (f : Option ObjectRow → Count) → f None ≡ no_count → (y : Identity) → same o y ≡ true → (s : Bool) → of_strength s (f (O' y)) ≡ 0
-    gone_row f a y e true = ap (λ c. of_strength true c) (ap f (rows y ∙ ap (λ b. cond b None (O y)) e) ∙ a)
-    gone_row f a y e false = ap (λ c. of_strength false c) (ap f (rows y ∙ ap (λ b. cond b None (O y)) e) ∙ a)
+    went : (f : Option ObjectRow → Count) → f None ≡ no_count → (y : Identity) (s : Bool) (test : Reference → Bool) → ((x : Reference) → test x ≡ true → same x.object y ≡ true) → of_strength s (f (O y)) ≡ count_by test l
+        → of_strength s (f (O' y)) ≡ count_by test l
+    went f none y s test to had = ap (λ w. of_strength s (f w)) (rows y) ∙ at (same o y) refl
+      where
+        at : (b : Bool) → same o y ≡ b → of_strength s (f (cond b None (O y))) ≡ count_by test l
+        at true e = ap (of_strength s) none ∙ none_of_either s ∙ sym (nothing_to y e test to)
+        at false e = had
 
     zero_few : {n m : ℕ} → n ≤ m → m ≡ 0 → n ≡ m
     zero_few a b = omega (arith, a, b)
 
     pub went_counts : CountsAre O' N (filter (λ x. not (same x.id o)) objects) l
     went_counts = record {
-      totals = λ y s. at_total y s (same o y) refl;
-      owed = λ y s. at_owed y s (same o y) refl;
-      managed = λ y s. at_managed y s (same o y) refl;
+      totals = λ y s. went total_of refl y s (is_to y s) (λ x k. grind (arith, k)) (h.totals y s);
+      owed = λ y s. went owed_of refl y s (is_shaking y s) (λ x k. grind (arith, k)) (h.owed y s);
+      managed = λ y s. went managed_of refl y s (is_managing y s) (λ x k. grind (arith, k)) (h.managed y s);
       asked = h.asked;
       unasked = λ p y s own. h.unasked p y s (still_owned p y (same o y) refl (sym (owned_less objects o p y) ∙ own));
       carried = λ p y s free. at_carried p y s (same o y) refl free;
       carried_few = h.carried_few;
     }
       where
-        at_total : (y : Identity) (s b : Bool) → same o y ≡ b → of_strength s (total_of (O' y)) ≡ count_by (is_to y s) l
-        at_total y s true e = gone_row total_of refl y e s ∙ sym (nothing_to y e (is_to y s) (λ x k. grind (arith, k)))
-        at_total y s false e = ap (λ w. of_strength s (total_of w)) (rows y ∙ ap (λ b. cond b None (O y)) e) ∙ h.totals y s
-
-        at_owed : (y : Identity) (s b : Bool) → same o y ≡ b → of_strength s (owed_of (O' y)) ≡ count_by (is_shaking y s) l
-        at_owed y s true e = gone_row owed_of refl y e s ∙ sym (nothing_to y e (is_shaking y s) (λ x k. grind (arith, k)))
-        at_owed y s false e = ap (λ w. of_strength s (owed_of w)) (rows y ∙ ap (λ b. cond b None (O y)) e) ∙ h.owed y s
-
-        at_managed : (y : Identity) (s b : Bool) → same o y ≡ b → of_strength s (managed_of (O' y)) ≡ count_by (is_managing y s) l
-        at_managed y s true e = gone_row managed_of refl y e s ∙ sym (nothing_to y e (is_managing y s) (λ x k. grind (arith, k)))
-        at_managed y s false e = ap (λ w. of_strength s (managed_of w)) (rows y ∙ ap (λ b. cond b None (O y)) e) ∙ h.managed y s
-
         still_owned : (p : ℕ) (y : Identity) (b : Bool) → same o y ≡ b → cond b false (owned_in objects p y) ≡ true → owned_in objects p y ≡ true
         still_owned p y true e own = absurd cc
         still_owned p y false e own = own

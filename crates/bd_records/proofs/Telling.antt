@@ -1,6 +1,6 @@
 -- What an object's owner was told.
 use Rattle.bd_records.proofs.Words.{Bool, CountsAre, Identity, List, NameRow, None, Object, ObjectRow, Option, Owned, OwnedAre, Reference, Some, [], ap, arith, changed, cond, false, id_at, id_key, is_owner, managed_of, map, object_in, of_strength, option_map, owed_of, own_key, owned_in, possession}
-use Rattle.bd_records.proofs.Words.{refl, same, same_eq, same_word, subst, sym, told, total_of, true, word_eq, word_self, ℕ, ◌&&◌, ◌==◌, ◌||◌, ◌∙◌, ◌∷◌, ◌≡◌}
+use Rattle.bd_records.proofs.Words.{refl, same, same_eq, same_word, subst, sym, told, total_of, true, word_eq, word_self, ℕ, ◌∙◌, ◌∷◌, ◌≡◌}
 use Rattle.bd_records.proofs.{Coming.{both_same, object_of}, Distinct.{changed_distinct}, Maps.{finds_hidden}, Tallies.{row_kept}}
 
 module _ (weak strong : Bool) (o : Identity) where
@@ -31,19 +31,11 @@ module _ (weak strong : Bool) (o : Identity) where
 
   pub owned_told : (objects : List Object) (p : ℕ) (y : Identity) → owned_in (retold objects) p y ≡ owned_in objects p y
   owned_told [] p y = refl
-  owned_told (x ∷ xs) p y = at (same x.id o) (owned_told xs p y)
-    where
-      at : (a : Bool) → owned_in (retold xs) p y ≡ owned_in xs p y → owned_in (cond a (tell x) x ∷ retold xs) p y ≡ owned_in (x ∷ xs) p y
-      at true more = ap (λ b. (same x.id y && (x.owner == p)) || b) more
-      at false more = ap (λ b. (same x.id y && (x.owner == p)) || b) more
+  owned_told (x ∷ xs) p y = grind (arith, owned_told xs p y)
 
   possessions_told : (objects : List Object) → map possession (retold objects) ≡ map possession objects
   possessions_told [] = refl
-  possessions_told (x ∷ xs) = at (same x.id o) (possessions_told xs)
-    where
-      at : (a : Bool) → map possession (retold xs) ≡ map possession xs → map possession (cond a (tell x) x ∷ retold xs) ≡ map possession (x ∷ xs)
-      at true more = ap (λ vs. possession x ∷ vs) more
-      at false more = ap (λ vs. possession x ∷ vs) more
+  possessions_told (x ∷ xs) = grind (arith, possessions_told xs)
 
   -- neither identities nor pointers change
   pub told_owned : (t : Owned) (objects : List Object) → OwnedAre t objects → OwnedAre t (retold objects)

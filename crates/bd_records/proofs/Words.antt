@@ -1,5 +1,6 @@
 -- The words in which the proofs speak, passed on from where they are defined.
 pub use Rattle.std.proofs.Common.{Bool, Err, IfOk, IfSome, List, None, Ok, OnErr, OnOk, Option, Result, Some, [], ap, append-nil, append_assoc, arith, cond, count_by, drop, eqb, eqb-true, false, filter, find, get_or, if◌then◌else◌, inl, inr, is_some, length, length-append, map, min, nat_lt, not, option_map, refl, subst, suc, sym, take, true, unwrap_or, zero, ℕ, ◌&&◌, ◌++◌, ◌+◌, ◌-◌, ◌<◌, ◌==◌, ◌^◌, ◌||◌, ◌∙◌, ◌∷◌, ◌≡◌, ◌≤◌, ◌⊎◌}
+pub use Rattle.std.proofs.Math.Bool.{and-false, and-true, or-false, or_assoc}
 pub use Rattle.std.proofs.lemmas.{Bool.{Decides.{nat_tests}, and_from, and_parts, cases_lt, eq-eqb, false≢true, or_cases, or_from, or_parts}, List.{Elements.{filter-append}, Folds.{find-append, list_any-append}, Sums.{count_by-le-length, sum_by-append, sum_by-cons, sum_by_push}, drop_more, take_all, take_more}, Result.{on_err_weaker, on_ok_weaker}}
 pub use Rattle.std.specs.{Cmp.{both_ways}, HashMap.{get_by, spare}, List.{list_any, slice_get}, Option.{option_and_then, option_or}, Prelude.{IfNone, nat_le, option_copied, vec_capacity, vec_len}}
 pub use Rattle.bd_chains.proofs.{Listing.{dropped_shows, kept_shows, on_list, same_number}, Rowing.{at_less, at_more, drop_none, first_in}}
