@@ -40,11 +40,7 @@ now_unasked p o w l e = subst (λ v. list_any (asked_to p o) (unnamed p v l) ≡
 -- of no object: of none
 pub all_unasked : (p : ℕ) (l : List Reference) → ((o : Identity) → list_any (asked_to p o) l ≡ false) → list_any (asked_by p) l ≡ false
 all_unasked p [] none = refl
-all_unasked p (x ∷ l) none = at (is_asked_by p x.holder) refl (all_unasked p l (λ o. grind (arith, none o)))
-  where
-    at : (b : Bool) → is_asked_by p x.holder ≡ b → list_any (asked_by p) l ≡ false → (b || list_any (asked_by p) l) ≡ false
-    at true e more = absurd (let k = none x.object in let s = same_self x.object in grind (arith, e, k, s))
-    at false e more = more
+all_unasked p (x ∷ l) none = grind (arith, all_unasked p l (λ o. grind (arith, none o)), none x.object, same_self x.object)
 
 -- nothing is asked for that has no name, and nothing by a name by which nothing is
 pub nothing_asked_for : (t : Records) (objects : List Object) (l : List Reference) (p : ℕ) → RecordsAre t objects l

@@ -1,5 +1,5 @@
 -- The references go that an owner has to its own object.
-use Rattle.bd_records.proofs.Words.{Asked, Bool, Carried, Count, CountsAre, Handshake, Holder, Identity, List, Manager, NameRow, None, Object, ObjectRow, Option, Reference, Some, Target, [], ap, arith, beq, carried_of, cond, count_by, disowned, false, filter, is_asked_by, is_asking, is_carried_to}
+use Rattle.bd_records.proofs.Words.{Asked, Bool, Carried, Count, CountsAre, Handshake, Holder, Identity, List, Manager, NameRow, None, Object, ObjectRow, Option, Reference, Some, Target, [], ap, arith, carried_of, cond, count_by, disowned, false, filter, is_asked_by, is_asking, is_carried_to}
 use Rattle.bd_records.proofs.Words.{is_carrying, is_handshake, is_managers, is_managing, is_of_owner, is_shaking, is_to, length, managed_of, no_count, not, of_strength, option_map, owed_of, refl, same, same_eq, same_self, same_turned, subst, sum_by-cons, sym, total_of, true, ℕ, ◌&&◌, ◌+◌, ◌||◌, ◌∙◌}
 use Rattle.bd_records.proofs.Words.{◌∷◌, ◌≡◌, ◌≤◌}
 use Rattle.bd_records.proofs.Tallies.{none_of_either}
@@ -71,17 +71,7 @@ module _ (o : Identity) where
   -- all to it are those that stay and those that go
   pub total_parts : (s : Bool) (l : List Reference) → count_by (is_to o s) l ≡ count_by (is_to o s) (others l) + (count_by (is_shaking o s) l + count_by (is_managing o s) l)
   total_parts s [] = refl
-  total_parts s (x ∷ l) = at x.holder refl (same x.object o) refl (beq x.strong s) refl (total_parts s l)
-    where
-      at : (h : Holder) → x.holder ≡ h → (b : Bool) → same x.object o ≡ b → (t : Bool) → beq x.strong s ≡ t → count_by (is_to o s) l ≡ count_by (is_to o s) (others l) + (count_by (is_shaking o s) l + count_by (is_managing o s) l)
-          → count_by (is_to o s) (x ∷ l) ≡ count_by (is_to o s) (cond (not (b && is_of_owner h)) (x ∷ others l) (others l)) + (count_by (is_shaking o s) (x ∷ l) + count_by (is_managing o s) (x ∷ l))
-      at (Asked q) is b e t k more = grind (arith, more, is, sum_by-cons (λ z. cond (is_to o s z) 1 0) x l, sum_by-cons (λ z. cond (is_to o s z) 1 0) x (others l), sum_by-cons (λ z. cond (is_shaking o s z) 1 0) x l, sum_by-cons (λ z. cond (is_managing o s z) 1 0) x l)
-      at (Carried c q) is b e t k more = grind (arith, more, is, sum_by-cons (λ z. cond (is_to o s z) 1 0) x l, sum_by-cons (λ z. cond (is_to o s z) 1 0) x (others l), sum_by-cons (λ z. cond (is_shaking o s z) 1 0) x l, sum_by-cons (λ z. cond (is_managing o s z) 1 0) x l)
-      at (Target c q) is b e t k more = grind (arith, more, is, sum_by-cons (λ z. cond (is_to o s z) 1 0) x l, sum_by-cons (λ z. cond (is_to o s z) 1 0) x (others l), sum_by-cons (λ z. cond (is_shaking o s z) 1 0) x l, sum_by-cons (λ z. cond (is_managing o s z) 1 0) x l)
-      at Handshake is true e t k more = grind (arith, more, is, e, sum_by-cons (λ z. cond (is_to o s z) 1 0) x l, sum_by-cons (λ z. cond (is_shaking o s z) 1 0) x l, sum_by-cons (λ z. cond (is_managing o s z) 1 0) x l)
-      at Handshake is false e t k more = grind (arith, more, is, e, sum_by-cons (λ z. cond (is_to o s z) 1 0) x l, sum_by-cons (λ z. cond (is_to o s z) 1 0) x (others l), sum_by-cons (λ z. cond (is_shaking o s z) 1 0) x l, sum_by-cons (λ z. cond (is_managing o s z) 1 0) x l)
-      at Manager is true e t k more = grind (arith, more, is, e, sum_by-cons (λ z. cond (is_to o s z) 1 0) x l, sum_by-cons (λ z. cond (is_shaking o s z) 1 0) x l, sum_by-cons (λ z. cond (is_managing o s z) 1 0) x l)
-      at Manager is false e t k more = grind (arith, more, is, e, sum_by-cons (λ z. cond (is_to o s z) 1 0) x l, sum_by-cons (λ z. cond (is_to o s z) 1 0) x (others l), sum_by-cons (λ z. cond (is_shaking o s z) 1 0) x l, sum_by-cons (λ z. cond (is_managing o s z) 1 0) x l)
+  total_parts s (x ∷ l) = grind (arith, total_parts s l, owner_is x.holder, one_owner x.holder, sum_by-cons (λ z. cond (is_to o s z) 1 0) x l, sum_by-cons (λ z. cond (is_to o s z) 1 0) x (others l), sum_by-cons (λ z. cond (is_shaking o s z) 1 0) x l, sum_by-cons (λ z. cond (is_managing o s z) 1 0) x l)
 
   total_left : (s : Bool) (w : Option ObjectRow) (n a m k : ℕ) → of_strength s (total_of w) ≡ n → of_strength s (owed_of w) ≡ m → of_strength s (managed_of w) ≡ k → n ≡ a + (m + k) → of_strength s (total_of (option_map disowned w)) ≡ a
   total_left true None n a m k e f g h = grind (arith, e, f, g, h)

@@ -146,10 +146,4 @@ module _ (p : ℕ) (o : Identity) where
 -- where none is counted, none is there
 pub nothing_asked : (p : ℕ) (o : Identity) (l : List Reference) → count_by (is_asking p o false) l ≡ 0 → count_by (is_asking p o true) l ≡ 0 → unasked_by p o l ≡ l
 nothing_asked p o [] a b = refl
-nothing_asked p o (x ∷ l) a b = at (asked_to p o x) refl x.strong refl (nothing_asked p o l)
-  where
-    at : (d : Bool) → asked_to p o x ≡ d → (s : Bool) → x.strong ≡ s → (count_by (is_asking p o false) l ≡ 0 → count_by (is_asking p o true) l ≡ 0 → unasked_by p o l ≡ l)
-        → cond (not d) (x ∷ unasked_by p o l) (unasked_by p o l) ≡ x ∷ l
-    at false e s f more = ap (λ ys. x ∷ ys) (more (grind (arith, a, sum_by-cons (λ z. cond (is_asking p o false z) 1 0) x l)) (grind (arith, b, sum_by-cons (λ z. cond (is_asking p o true z) 1 0) x l)))
-    at true e true f more = absurd (let k : is_asking p o true x ≡ true = grind (arith, e, f) in grind (arith, b, k, sum_by-cons (λ z. cond (is_asking p o true z) 1 0) x l))
-    at true e false f more = absurd (let k : is_asking p o false x ≡ true = grind (arith, e, f) in grind (arith, a, k, sum_by-cons (λ z. cond (is_asking p o false z) 1 0) x l))
+nothing_asked p o (x ∷ l) a b = grind (arith, nothing_asked p o l, a, b, sum_by-cons (λ z. cond (is_asking p o false z) 1 0) x l, sum_by-cons (λ z. cond (is_asking p o true z) 1 0) x l)

@@ -70,6 +70,22 @@ module _ {W : Type 0} (f : Option W → Count) (up : W → W) (more b t : Bool) 
       at false is = subst (λ c. of_strength s c ≤ after more n (cond ((beq b s && true) && false) 1 0)) (sym is) (subst (λ k. of_strength s (f (Some v)) ≤ k) (sym (none_after more _ n (and-false (beq b s && true)))) e)
   counted_few true None e = subst (λ c. of_strength s c ≤ after more n (cond ((beq b s && true) && t) 1 0)) (sym none) (subst (λ k. k ≤ after more n (cond ((beq b s && true) && t) 1 0)) (sym (none_of_either s)) (omega arith))
 
+-- a counter of a record that may go, where none counts for it
+module _ {W : Type 0} (f : Option W → Count) (none : f None ≡ no_count) (b : Bool) (w v : Option W) (is : v ≡ cond b None w) (s : Bool) (n : ℕ) where
+  pub without : (b ≡ true → n ≡ 0) → of_strength s (f w) ≡ n → of_strength s (f v) ≡ n
+  without gone e = ap (λ x. of_strength s (f x)) is ∙ at b refl
+    where
+      at : (c : Bool) → b ≡ c → of_strength s (f (cond c None w)) ≡ n
+      at true k = ap (of_strength s) none ∙ none_of_either s ∙ sym (gone k)
+      at false k = e
+
+  pub without_few : of_strength s (f w) ≤ n → of_strength s (f v) ≤ n
+  without_few e = subst (λ x. of_strength s (f x) ≤ n) (sym is) (at b)
+    where
+      at : (c : Bool) → of_strength s (f (cond c None w)) ≤ n
+      at true = subst (λ k. k ≤ n) (sym (ap (of_strength s) none ∙ none_of_either s)) (omega arith)
+      at false = e
+
 -- ---- which counters
 
 asked_hit : (p : ℕ) (a b : Bool) (h : Holder) → ((a && (gives_name_to p h && b)) && is_asked h) ≡ ((a && b) && is_asked_by p h)
