@@ -1,24 +1,10 @@
 -- The objects of what goes with a process.
-use Rattle.bd_records.proofs.Words.{Bool, Err, Identity, List, Lying, Names, None, Object, Ok, OnErr, Option, Records, RecordsAre, Reference, Result, Some, [], and-false, and-true, ap, arith, asked_of, asks, cond, false, filter, is_among, is_asked_by, is_empty, is_in_window, is_named_at, list_any}
-use Rattle.bd_records.proofs.Words.{list_any-append, map, name_at, named_by, not, number_of, on_slot, or-false, or_assoc, refl, same, same_eq, same_turned, sym, true, value_at, ℕ, ◌&&◌, ◌++◌, ◌||◌, ◌∙◌, ◌∷◌, ◌≡◌, ◌≤◌}
+use Rattle.bd_records.proofs.Words.{Bool, Err, Identity, List, Lying, Names, None, Object, Ok, OnErr, Option, Records, RecordsAre, Reference, Result, Some, [], ap, arith, asked_of, asks, cond, false, filter, is_among, is_asked_by, is_empty, is_in_window, list_any, list_any-append, map, name_at}
+use Rattle.bd_records.proofs.Words.{named_by, not, number_of, on_slot, or_assoc, refl, same, same_turned, sym, true, value_at, ℕ, ◌&&◌, ◌++◌, ◌||◌, ◌∙◌, ◌∷◌, ◌≡◌, ◌≤◌}
 use Rattle.bd_records.proofs.{Forgetting.{asked_to}, Holding.{asked_counts, not_empty}}
 
 pub among_append : (xs ys : List Identity) (o : Identity) → is_among (xs ++ ys) o ≡ (is_among xs o || is_among ys o)
 among_append xs ys o = list_any-append (λ i. same o i) xs ys
-
-pub among_one : (xs : List Identity) (o x : Identity) → is_among (xs ++ o ∷ []) x ≡ (is_among xs x || same x o)
-among_one xs o x = among_append xs (o ∷ []) x ∙ ap (λ k. is_among xs x || k) (or-false (same x o))
-
--- what is asked for by its name, where that is it
-pub asked_if : (t : Names) (p : ℕ) (o x : Identity) (a : Bool) → (a || (asks t p o && same x o)) ≡ (a || (is_named_at (Some o) x && asks t p x))
-asked_if t p o x a = at (same x o) refl
-  where
-    at : (b : Bool) → same x o ≡ b → (a || (asks t p o && b)) ≡ (a || (b && asks t p x))
-    at true f = ap (λ c. a || c) (and-true (asks t p o) ∙ sym (ap (asks t p) (same_eq x o f)))
-    at false f = ap (λ c. a || c) (and-false (asks t p o))
-
-pub nothing_there : (a b : Bool) → a ≡ (a || (false && b))
-nothing_there a b = sym (or-false a)
 
 -- who asks for an object has a name for it
 pub asks_named : (t : Names) (p : ℕ) (x : Identity) → asks t p x ≡ true → (n : ℕ) × (named_by t p n ≡ Some x) × (n ≤ 4294967294)
@@ -95,9 +81,6 @@ none_passes q (x ∷ xs) e = grind (arith, none_passes q xs, e)
 pub not_false : (b : Bool) → (b ≡ false → ⊥) → b ≡ true
 not_false true h = refl
 not_false false h = absurd (h refl)
-
-pub clash : {b : Bool} → b ≡ true → b ≡ false → ⊥
-clash a b = cc
 
 pub on_err_of : {T E P : Type 0} (r : Result T E) → P → OnErr r P
 on_err_of (Ok x) h = tt
