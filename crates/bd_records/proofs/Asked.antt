@@ -1,6 +1,8 @@
 -- A name comes or goes while nothing gives it.
-use Rattle.bd_records.proofs.Words.{Asked, Bool, Carried, Count, CountsAre, Handshake, Holder, Identity, List, Manager, NameRow, None, Object, ObjectRow, Option, Reference, Some, Target, [], and_parts, ap, arith, asked_of, carried_of, cond, count_by, eqb-true, false, gives_name_to, is_asked_by}
-use Rattle.bd_records.proofs.Words.{is_asking, is_carried_to, is_carrying, is_named_in, list_any, new_row, no_count, of_strength, owned_in, refl, same, same_eq, subst, sum_by-cons, sym, true, ℕ, ◌&&◌, ◌==◌, ◌∙◌, ◌∷◌, ◌≡◌, ◌≤◌}
+use Rattle.bd_records.proofs.Words.{Asked, Bool, BuffersAre, Carried, Count, CountsAre, Handshake, Holder, Identity, List, Manager, NameRow, None, Object, ObjectRow, Option, OwnedAre, Records, RecordsAre, Reference, Some, Target, [], and_parts, ap, arith, asked_of, carried_of, cond, count_by}
+use Rattle.bd_records.proofs.Words.{eqb-true, false, gives_name_to, is_asked_by, is_asking, is_carried_to, is_carrying, is_named_in, is_owner, length, list_any, name_at, new_row, no_count, of_strength, option_map, owned_in, refl, row_at, same, same_eq, subst, sum_by-cons, sym, true, ℕ, ◌&&◌, ◌==◌}
+use Rattle.bd_records.proofs.Words.{◌∙◌, ◌∷◌, ◌≡◌, ◌≤◌}
+use Rattle.bd_records.proofs.Tallies.{without, without_few}
 
 module _ (O : Identity → Option ObjectRow) (N M : ℕ → Identity → Option NameRow) (p : ℕ) (o : Identity) (objects : List Object) (l : List Reference) (h : CountsAre O N objects l) where
   -- a name that no reference carries comes
@@ -32,49 +34,25 @@ module _ (O : Identity → Option ObjectRow) (N M : ℕ → Identity → Option 
     totals = h.totals;
     owed = h.owed;
     managed = h.managed;
-    asked = λ q x s. at_asked q x s ((p == q) && same o x) refl;
+    asked = λ q x s. without asked_of refl ((p == q) && same o x) (N q x) (M q x) (rows q x) s _
+        (λ e. (let k = and_parts (p == q) (same o x) e in subst (λ y. count_by (is_asking q y s) l ≡ 0) (same_eq o x k.1) (subst (λ y. count_by (is_asking y o s) l ≡ 0) (eqb-true p q k.0) (none_asked s (owned_in objects p o) refl)))) (h.asked q x s);
     unasked = h.unasked;
-    carried = λ q x s free. at_carried q x s free ((p == q) && same o x) refl;
-    carried_few = λ q x s. few carried_of refl q x s _ ((p == q) && same o x) refl (h.carried_few q x s);
+    carried = λ q x s free. without carried_of refl ((p == q) && same o x) (N q x) (M q x) (rows q x) s _
+        (λ e. (let k = and_parts (p == q) (same o x) e in
+        let pq = eqb-true p q k.0 in
+        let ox = same_eq o x k.1 in
+        let own : owned_in objects p o ≡ false = subst (λ y. owned_in objects y o ≡ false) (sym pq) (subst (λ y. owned_in objects q y ≡ false) (sym ox) free) in
+        subst (λ y. count_by (is_carrying q y s) l ≡ 0) ox (subst (λ y. count_by (is_carrying y o s) l ≡ 0) pq (none s own).1))) (h.carried q x s free);
+    carried_few = λ q x s. without_few carried_of refl ((p == q) && same o x) (N q x) (M q x) (rows q x) s _ (h.carried_few q x s);
   }
     where
-      few : (f : Option NameRow → Count) → f None ≡ no_count → (q : ℕ) (x : Identity) (s : Bool) (n : ℕ) (d : Bool) → ((p == q) && same o x) ≡ d → of_strength s (f (N q x)) ≤ n → of_strength s (f (M q x)) ≤ n
-      few f z q x s n false e k = subst (λ y. of_strength s (f y) ≤ n) (sym (rows q x ∙ ap (λ b. cond b None (N q x)) e)) k
-      few f z q x true n true e k = subst (λ y. of_strength true (f y) ≤ n) (sym (rows q x ∙ ap (λ b. cond b None (N q x)) e)) (subst (λ c. of_strength true c ≤ n) (sym z) (omega arith))
-      few f z q x false n true e k = subst (λ y. of_strength false (f y) ≤ n) (sym (rows q x ∙ ap (λ b. cond b None (N q x)) e)) (subst (λ c. of_strength false c ≤ n) (sym z) (omega arith))
-
-      zero_count : (s : Bool) → of_strength s no_count ≡ 0
-      zero_count true = refl
-      zero_count false = refl
-
       none_asked : (s b : Bool) → owned_in objects p o ≡ b → count_by (is_asking p o s) l ≡ 0
       none_asked s true e = h.unasked p o s e
       none_asked s false e = (none s e).0
 
-      at_asked : (q : ℕ) (x : Identity) (s d : Bool) → ((p == q) && same o x) ≡ d → of_strength s (asked_of (M q x)) ≡ count_by (is_asking q x s) l
-      at_asked q x s false e = ap (λ w. of_strength s (asked_of w)) (rows q x ∙ ap (λ b. cond b None (N q x)) e) ∙ h.asked q x s
-      at_asked q x s true e =
-          let k = and_parts (p == q) (same o x) e in
-          ap (λ w. of_strength s (asked_of w)) (rows q x ∙ ap (λ b. cond b None (N q x)) e) ∙ zero_count s
-          ∙ subst (λ y. 0 ≡ count_by (is_asking q y s) l) (same_eq o x k.1) (subst (λ y. 0 ≡ count_by (is_asking y o s) l) (eqb-true p q k.0) (sym (none_asked s (owned_in objects p o) refl)))
-
-      at_carried : (q : ℕ) (x : Identity) (s : Bool) → owned_in objects q x ≡ false → (d : Bool) → ((p == q) && same o x) ≡ d → of_strength s (carried_of (M q x)) ≡ count_by (is_carrying q x s) l
-      at_carried q x s free false e = ap (λ w. of_strength s (carried_of w)) (rows q x ∙ ap (λ b. cond b None (N q x)) e) ∙ h.carried q x s free
-      at_carried q x s free true e =
-          let k = and_parts (p == q) (same o x) e in
-          let pq = eqb-true p q k.0 in
-          let ox = same_eq o x k.1 in
-          let own : owned_in objects p o ≡ false = subst (λ y. owned_in objects y o ≡ false) (sym pq) (subst (λ y. owned_in objects q y ≡ false) (sym ox) free) in
-          ap (λ w. of_strength s (carried_of w)) (rows q x ∙ ap (λ b. cond b None (N q x)) e) ∙ zero_count s
-          ∙ subst (λ y. 0 ≡ count_by (is_carrying q y s) l) ox (subst (λ y. 0 ≡ count_by (is_carrying y o s) l) pq (sym (none s own).1))
-
 pub none_count : (q p : Reference → Bool) → ((x : Reference) → q x ≡ true → p x ≡ true) → (l : List Reference) → list_any p l ≡ false → count_by q l ≡ 0
 none_count q p so [] e = refl
-none_count q p so (x ∷ l) e = at (q x) refl (none_count q p so l)
-  where
-    at : (b : Bool) → q x ≡ b → (list_any p l ≡ false → count_by q l ≡ 0) → count_by q (x ∷ l) ≡ 0
-    at true f more = absurd (let k = so x f in grind (arith, k, e))
-    at false f more = grind (arith, f, more, e, sum_by-cons (λ z. cond (q z) 1 0) x l)
+none_count q p so (x ∷ l) e = grind (arith, e, none_count q p so l, so x, sum_by-cons (λ z. cond (q z) 1 0) x l)
 
 names_by : (p : ℕ) (h : Holder) → (is_asked_by p h ≡ true → gives_name_to p h ≡ true) × (is_carried_to p h ≡ true → gives_name_to p h ≡ true)
 names_by p (Asked q) = (λ e. e, λ e. absurd cc)
@@ -95,10 +73,6 @@ unnamed_counts objects l p o none s free =
 -- all names of a process go, none of which a reference gives
 module _ (O : Identity → Option ObjectRow) (N M : ℕ → Identity → Option NameRow) (p : ℕ) (objects : List Object) (l : List Reference) (h : CountsAre O N objects l)
     (none : list_any (λ r. gives_name_to p r.holder) l ≡ false) (rows : (q : ℕ) (x : Identity) → M q x ≡ cond (p == q) None (N q x)) where
-  none_of : (s : Bool) → of_strength s no_count ≡ 0
-  none_of true = refl
-  none_of false = refl
-
   no_asking : (q : ℕ) (x : Identity) (s : Bool) → (p == q) ≡ true → count_by (is_asking q x s) l ≡ 0
   no_asking q x s e = none_count (is_asking q x s) (λ r. gives_name_to p r.holder) (λ r k. subst (λ y. gives_name_to y r.holder ≡ true) (sym (eqb-true p q e)) ((names_by q r.holder).0 (grind (arith, k)))) l none
 
@@ -110,20 +84,20 @@ module _ (O : Identity → Option ObjectRow) (N M : ℕ → Identity → Option 
     totals = h.totals;
     owed = h.owed;
     managed = h.managed;
-    asked = λ q x s. at_asked q x s (p == q) refl;
+    asked = λ q x s. without asked_of refl (p == q) (N q x) (M q x) (rows q x) s _ (no_asking q x s) (h.asked q x s);
     unasked = h.unasked;
-    carried = λ q x s free. at_carried q x s free (p == q) refl;
-    carried_few = λ q x s. at_few q x s (p == q) refl;
+    carried = λ q x s free. without carried_of refl (p == q) (N q x) (M q x) (rows q x) s _ (no_carrying q x s) (h.carried q x s free);
+    carried_few = λ q x s. without_few carried_of refl (p == q) (N q x) (M q x) (rows q x) s _ (h.carried_few q x s);
   }
-    where
-      at_asked : (q : ℕ) (x : Identity) (s b : Bool) → (p == q) ≡ b → of_strength s (asked_of (M q x)) ≡ count_by (is_asking q x s) l
-      at_asked q x s true e = ap (λ w. of_strength s (asked_of w)) (rows q x ∙ ap (λ b. cond b None (N q x)) e) ∙ none_of s ∙ sym (no_asking q x s e)
-      at_asked q x s false e = ap (λ w. of_strength s (asked_of w)) (rows q x ∙ ap (λ b. cond b None (N q x)) e) ∙ h.asked q x s
 
-      at_carried : (q : ℕ) (x : Identity) (s : Bool) → owned_in objects q x ≡ false → (b : Bool) → (p == q) ≡ b → of_strength s (carried_of (M q x)) ≡ count_by (is_carrying q x s) l
-      at_carried q x s free true e = ap (λ w. of_strength s (carried_of w)) (rows q x ∙ ap (λ b. cond b None (N q x)) e) ∙ none_of s ∙ sym (no_carrying q x s e)
-      at_carried q x s free false e = ap (λ w. of_strength s (carried_of w)) (rows q x ∙ ap (λ b. cond b None (N q x)) e) ∙ h.carried q x s free
-
-      at_few : (q : ℕ) (x : Identity) (s b : Bool) → (p == q) ≡ b → of_strength s (carried_of (M q x)) ≤ count_by (is_carrying q x s) l
-      at_few q x s true e = subst (λ n. n ≤ count_by (is_carrying q x s) l) (sym (ap (λ w. of_strength s (carried_of w)) (rows q x ∙ ap (λ b. cond b None (N q x)) e) ∙ none_of s)) (omega arith)
-      at_few q x s false e = subst (λ n. n ≤ count_by (is_carrying q x s) l) (sym (ap (λ w. of_strength s (carried_of w)) (rows q x ∙ ap (λ b. cond b None (N q x)) e))) (h.carried_few q x s)
+-- the records with other names, of which each counter is still right
+pub renamed : (t u : Records) (objects : List Object) (l : List Reference) → RecordsAre t objects l → u.objects ≡ t.objects → u.owned ≡ t.owned → u.held ≡ t.held → u.made ≡ t.made
+    → CountsAre (row_at t.objects) (name_at u.names) objects l → RecordsAre u objects l
+renamed t u objects l h rows own held made counts = record {
+  objects_are = λ o. h.objects_are o ∙ ap (λ x. option_map (λ (w : ObjectRow). w.object) (row_at x o)) (sym rows);
+  owners = λ p o. h.owners p o ∙ ap (λ x. is_owner p (row_at x o)) (sym rows);
+  own = subst (λ x. OwnedAre x objects) (sym own) h.own;
+  counts = subst (λ x. CountsAre (row_at x) (name_at u.names) objects l) (sym rows) counts;
+  held = subst (λ x. BuffersAre x l) (sym held) h.held;
+  few = subst (λ x. length l ≤ x) (sym made) h.few;
+}

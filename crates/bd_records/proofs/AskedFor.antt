@@ -1,7 +1,7 @@
 -- What a process asked for goes, name by name.
-use Rattle.bd_records.proofs.Words.{Bool, Identity, List, None, Object, Option, Records, RecordsAre, Reference, Some, [], ap, arith, asked_of, cond, count_by, false, filter, is_asked_by, is_asking, is_named_at, list_any, named_by, nat_lt, no_count, not, number_of, of_strength, on_slot, refl}
-use Rattle.bd_records.proofs.Words.{same_self, subst, sym, true, value_at, ℕ, ◌&&◌, ◌<◌, ◌^◌, ◌||◌, ◌∙◌, ◌∷◌, ◌≡◌}
-use Rattle.bd_records.proofs.{Forgetting.{asked_to}, Holding.{asked_counts}, Lists.{filter_within}}
+use Rattle.bd_records.proofs.Words.{Bool, Identity, List, None, Object, Option, Records, RecordsAre, Reference, Some, [], ap, arith, asked_of, count_by, false, filter, is_asked_by, is_asking, is_named_at, list_any, named_by, nat_lt, not, number_of, of_strength, on_slot, refl, same_self, subst, sym}
+use Rattle.bd_records.proofs.Words.{true, value_at, ℕ, ◌&&◌, ◌<◌, ◌^◌, ◌||◌, ◌∙◌, ◌∷◌, ◌≡◌}
+use Rattle.bd_records.proofs.{Forgetting.{asked_to}, Holding.{asked_counts}, Lists.{filter_within, none_left}, Tallies.{none_of_either}}
 
 abbrev pub asked_by : ℕ → Reference → Bool
 asked_by p r = is_asked_by p r.holder
@@ -28,40 +28,19 @@ others_stay p w l = filter_within (λ r. not (is_asked_by p r.holder)) (λ r. no
 
 none_kept : (f q : Reference → Bool) (l : List Reference) → list_any f l ≡ false → list_any f (filter q l) ≡ false
 none_kept f q [] e = refl
-none_kept f q (x ∷ l) e = at (q x) (f x) refl (none_kept f q l)
-  where
-    at : (b c : Bool) → f x ≡ c → (list_any f l ≡ false → list_any f (filter q l) ≡ false) → list_any f (cond b (x ∷ filter q l) (filter q l)) ≡ false
-    at b true g more = absurd (grind (arith, e, g))
-    at true false g more = grind (arith, e, g, more)
-    at false false g more = more (grind (arith, e, g))
-
-none_passes : (f : Reference → Bool) (l : List Reference) → list_any f (filter (λ x. not (f x)) l) ≡ false
-none_passes f [] = refl
-none_passes f (x ∷ l) = at (f x) refl (none_passes f l)
-  where
-    at : (b : Bool) → f x ≡ b → list_any f (filter (λ x. not (f x)) l) ≡ false → list_any f (cond (not b) (x ∷ filter (λ x. not (f x)) l) (filter (λ x. not (f x)) l)) ≡ false
-    at true e more = more
-    at false e more = grind (arith, e, more)
+none_kept f q (x ∷ l) e = grind (arith, none_kept f q l, e)
 
 -- what isn't asked for any more stays so
 pub still_unasked : (p : ℕ) (o : Identity) (w : Option Identity) (l : List Reference) → list_any (asked_to p o) l ≡ false → list_any (asked_to p o) (unnamed p w l) ≡ false
 still_unasked p o w l e = none_kept (asked_to p o) (λ r. not (is_named_at w r.object && is_asked_by p r.holder)) l e
 
 pub now_unasked : (p : ℕ) (o : Identity) (w : Option Identity) (l : List Reference) → w ≡ Some o → list_any (asked_to p o) (unnamed p w l) ≡ false
-now_unasked p o w l e = subst (λ v. list_any (asked_to p o) (unnamed p v l) ≡ false) (sym e) (none_passes (asked_to p o) l)
+now_unasked p o w l e = subst (λ v. list_any (asked_to p o) (unnamed p v l) ≡ false) (sym e) (none_left (asked_to p o) l)
 
 -- of no object: of none
 pub all_unasked : (p : ℕ) (l : List Reference) → ((o : Identity) → list_any (asked_to p o) l ≡ false) → list_any (asked_by p) l ≡ false
 all_unasked p [] none = refl
-all_unasked p (x ∷ l) none = at (is_asked_by p x.holder) refl (all_unasked p l (λ o. grind (arith, none o)))
-  where
-    at : (b : Bool) → is_asked_by p x.holder ≡ b → list_any (asked_by p) l ≡ false → (b || list_any (asked_by p) l) ≡ false
-    at true e more = absurd (let k = none x.object in let s = same_self x.object in grind (arith, e, k, s))
-    at false e more = more
-
-none_counted : (s : Bool) → of_strength s no_count ≡ 0
-none_counted true = refl
-none_counted false = refl
+all_unasked p (x ∷ l) none = grind (arith, all_unasked p l (λ o. grind (arith, none o)), none x.object, same_self x.object)
 
 -- nothing is asked for that has no name, and nothing by a name by which nothing is
 pub nothing_asked_for : (t : Records) (objects : List Object) (l : List Reference) (p : ℕ) → RecordsAre t objects l
@@ -70,6 +49,6 @@ nothing_asked_for t objects l p h none o = at (number_of t.names p o) refl
   where
     at : (k : Option ℕ) → number_of t.names p o ≡ k → list_any (asked_to p o) l ≡ false
     at None e =
-        let zero : (s : Bool) → count_by (is_asking p o s) l ≡ 0 = (λ s. sym (h.counts.asked p o s) ∙ ap (λ k. of_strength s (asked_of (on_slot None (value_at t.names.rows p) k))) e ∙ none_counted s) in
+        let zero : (s : Bool) → count_by (is_asking p o s) l ≡ 0 = (λ s. sym (h.counts.asked p o s) ∙ ap (λ k. of_strength s (asked_of (on_slot None (value_at t.names.rows p) k))) e ∙ none_of_either s) in
         asked_counts p o l ∙ (λ i. nat_lt 0 (zero false i) || nat_lt 0 (zero true i))
     at (Some n) e = none n (let s = t.names.small p o n e in omega (arith, s)) o (t.names.leads p o n e)

@@ -1,7 +1,7 @@
 -- Objects that come and go.
 use Rattle.bd_records.proofs.Words.{Bool, Count, CountsAre, Identity, List, NameRow, None, Object, ObjectRow, Option, Reference, Some, [], ap, arith, carried_of, cond, count_by, false, filter, held_in, is_asking, is_carrying, is_managing, is_owner, is_shaking, is_to, managed_of, no_count, not}
 use Rattle.bd_records.proofs.Words.{object_in, of_strength, option_map, or_parts, owed_of, owned_in, refl, same, same_eq, subst, sum_by-cons, sym, total_of, true, ℕ, ◌&&◌, ◌++◌, ◌==◌, ◌||◌, ◌∙◌, ◌∷◌, ◌≡◌, ◌≤◌}
-use Rattle.bd_records.proofs.Asked.{none_count}
+use Rattle.bd_records.proofs.{Asked.{none_count}, Tallies.{none_of_either, without}}
 
 abbrev pub object_of : ObjectRow → Object
 object_of w = w.object
@@ -10,19 +10,15 @@ object_of w = w.object
 pub both_same : (a b c : Identity) → same a c ≡ true → same b c ≡ true → same a b ≡ true
 both_same a b c h k = subst (λ y. same a y ≡ true) (sym (same_eq b c k)) h
 
+-- what is the same as one is the same as another of it
+pub both_from : (a b c : Identity) → same a b ≡ true → same a c ≡ true → same b c ≡ true
+both_from a b c h k = subst (λ y. same y c ≡ true) (same_eq a b h) k
+
 -- ---- one comes
 
 pub object_more : (objects : List Object) (x : Object) → object_in objects x.id ≡ None → (o : Identity) → object_in (objects ++ x ∷ []) o ≡ cond (same x.id o) (Some x) (object_in objects o)
 object_more [] x new o = refl
-object_more (y ∷ ys) x new o = at (same y.id o) (same x.id o) refl refl (same y.id x.id) refl (λ k. object_more ys x k o)
-  where
-    at : (a b : Bool) → same y.id o ≡ a → same x.id o ≡ b → (c : Bool) → same y.id x.id ≡ c → (object_in ys x.id ≡ None → object_in (ys ++ x ∷ []) o ≡ cond (same x.id o) (Some x) (object_in ys o))
-        → cond a (Some y) (object_in (ys ++ x ∷ []) o) ≡ cond b (Some x) (cond a (Some y) (object_in ys o))
-    at a b e f true g more = absurd (let h : Some y ≡ None = grind (arith, new, g) in cc)
-    at true true e f false g more = absurd (let h = both_same y.id x.id o e f in cc)
-    at true false e f false g more = refl
-    at false true e f false g more = grind (arith, f, more, new, g)
-    at false false e f false g more = grind (arith, f, more, new, g)
+object_more (y ∷ ys) x new o = grind (arith, object_more ys x, new, both_same y.id x.id o)
 
 pub owned_more : (objects : List Object) (x : Object) (p : ℕ) (o : Identity) → owned_in (objects ++ x ∷ []) p o ≡ (owned_in objects p o || (same x.id o && (x.owner == p)))
 owned_more [] x p o = grind arith
@@ -30,59 +26,22 @@ owned_more (y ∷ ys) x p o = grind (arith, owned_more ys x p o)
 
 -- ---- one goes
 
-none_either : (b : Bool) → (let n : Option Object = None in n ≡ cond b n n)
-none_either true = refl
-none_either false = refl
-
 pub object_less : (objects : List Object) (o y : Identity) → object_in (filter (λ x. not (same x.id o)) objects) y ≡ cond (same o y) None (object_in objects y)
-object_less [] o y = none_either (same o y)
-object_less (x ∷ xs) o y = at (same x.id o) refl (same o y) refl (same x.id y) refl (object_less xs o y)
-  where
-    at : (a : Bool) → same x.id o ≡ a → (b : Bool) → same o y ≡ b → (c : Bool) → same x.id y ≡ c → object_in (filter (λ x. not (same x.id o)) xs) y ≡ cond (same o y) None (object_in xs y)
-        → object_in (cond (not a) (x ∷ filter (λ x. not (same x.id o)) xs) (filter (λ x. not (same x.id o)) xs)) y ≡ cond b None (cond c (Some x) (object_in xs y))
-    at true e true f c g more = grind (arith, more, f)
-    at true e false f true g more = absurd (let h = subst (λ z. same z y ≡ true) (same_eq x.id o e) g in cc)
-    at true e false f false g more = grind (arith, more, f)
-    at false e true f true g more = absurd (let h = both_same x.id o y g f in cc)
-    at false e true f false g more = grind (arith, more, f, g)
-    at false e false f true g more = grind (arith, more, f, g)
-    at false e false f false g more = grind (arith, more, f, g)
+object_less [] o y = grind arith
+object_less (x ∷ xs) o y = grind (arith, object_less xs o y, both_same x.id o y, both_from x.id o y)
 
 pub owned_less : (objects : List Object) (o : Identity) (p : ℕ) (y : Identity) → owned_in (filter (λ x. not (same x.id o)) objects) p y ≡ cond (same o y) false (owned_in objects p y)
-owned_less [] o p y = at (same o y)
-  where
-    at : (b : Bool) → false ≡ cond b false false
-    at true = refl
-    at false = refl
-owned_less (x ∷ xs) o p y = at (same x.id o) refl (same o y) refl (same x.id y) refl (owned_less xs o p y)
-  where
-    at : (a : Bool) → same x.id o ≡ a → (b : Bool) → same o y ≡ b → (c : Bool) → same x.id y ≡ c → owned_in (filter (λ x. not (same x.id o)) xs) p y ≡ cond (same o y) false (owned_in xs p y)
-        → owned_in (cond (not a) (x ∷ filter (λ x. not (same x.id o)) xs) (filter (λ x. not (same x.id o)) xs)) p y ≡ cond b false ((c && (x.owner == p)) || owned_in xs p y)
-    at true e true f c g more = grind (arith, more, f)
-    at true e false f true g more = absurd (let h = subst (λ z. same z y ≡ true) (same_eq x.id o e) g in cc)
-    at true e false f false g more = grind (arith, more, f)
-    at false e true f true g more = absurd (let h = both_same x.id o y g f in cc)
-    at false e true f false g more = grind (arith, more, f, g)
-    at false e false f true g more = grind (arith, more, f, g)
-    at false e false f false g more = grind (arith, more, f, g)
+owned_less [] o p y = grind arith
+owned_less (x ∷ xs) o p y = grind (arith, owned_less xs o p y, both_same x.id o y, both_from x.id o y)
 
 no_object : (w : Option ObjectRow) → None ≡ option_map object_of w → w ≡ None
 no_object None h = refl
 no_object (Some v) h = absurd cc
 
-zero_of : (s : Bool) → of_strength s no_count ≡ 0
-zero_of true = refl
-zero_of false = refl
-
 -- of fewer there is none either
 none_below : (f g : Reference → Bool) → ((x : Reference) → f x ≡ true → g x ≡ true) → (l : List Reference) → count_by g l ≡ 0 → count_by f l ≡ 0
 none_below f g so [] e = refl
-none_below f g so (x ∷ l) e = at (f x) refl (g x) refl (none_below f g so l)
-  where
-    at : (b : Bool) → f x ≡ b → (c : Bool) → g x ≡ c → (count_by g l ≡ 0 → count_by f l ≡ 0) → count_by f (x ∷ l) ≡ 0
-    at true a false d more = absurd (let k = so x a in cc)
-    at b a true d more = absurd (grind (arith, e, d, sum_by-cons (λ z. cond (g z) 1 0) x l))
-    at false a false d more = grind (arith, a, d, e, more, sum_by-cons (λ z. cond (f z) 1 0) x l, sum_by-cons (λ z. cond (g z) 1 0) x l)
+none_below f g so (x ∷ l) e = grind (arith, e, none_below f g so l, so x, sum_by-cons (λ z. cond (f z) 1 0) x l, sum_by-cons (λ z. cond (g z) 1 0) x l)
 
 -- ---- the relation
 
@@ -126,7 +85,7 @@ module _ (O O' : Identity → Option ObjectRow) (N : ℕ → Identity → Option
         none_asked p o s true e own = h.unasked p o s e
         none_asked p o s false e own =
             let on : same x.id o ≡ true = grind (arith, own) in
-            none_below (is_asking p o s) (is_to o s) (λ y k. grind (arith, k)) l (sym (h.totals o s) ∙ ap (λ w. of_strength s (total_of w)) (none_at o on) ∙ zero_of s)
+            none_below (is_asking p o s) (is_to o s) (λ y k. grind (arith, k)) l (sym (h.totals o s) ∙ ap (λ w. of_strength s (total_of w)) (none_at o on) ∙ none_of_either s)
 
         kept : (f : Option ObjectRow → Count) → f None ≡ no_count → f (Some (record { object = x; total = no_count; owed = no_count; managed = no_count })) ≡ no_count → (o : Identity) (s : Bool) → of_strength s (f (O' o)) ≡ of_strength s (f (O o))
         kept f a b o s = ap (of_strength s) (at (same x.id o) refl)
@@ -154,36 +113,20 @@ module _ (O O' : Identity → Option ObjectRow) (N : ℕ → Identity → Option
     nothing_to : (y : Identity) → same o y ≡ true → (f : Reference → Bool) → ((x : Reference) → f x ≡ true → same x.object y ≡ true) → count_by f l ≡ 0
     nothing_to y e f to = none_count f (λ r. same r.object o) (λ x k. subst (λ z. same x.object z ≡ true) (sym (same_eq o y e)) (to x k)) l unheld
 
-    gone_row : (f : Option ObjectRow → Count) → f None ≡ no_count → (y : Identity) → same o y ≡ true → (s : Bool) → of_strength s (f (O' y)) ≡ 0
-    gone_row f a y e true = ap (λ c. of_strength true c) (ap f (rows y ∙ ap (λ b. cond b None (O y)) e) ∙ a)
-    gone_row f a y e false = ap (λ c. of_strength false c) (ap f (rows y ∙ ap (λ b. cond b None (O y)) e) ∙ a)
-
     zero_few : {n m : ℕ} → n ≤ m → m ≡ 0 → n ≡ m
     zero_few a b = omega (arith, a, b)
 
     pub went_counts : CountsAre O' N (filter (λ x. not (same x.id o)) objects) l
     went_counts = record {
-      totals = λ y s. at_total y s (same o y) refl;
-      owed = λ y s. at_owed y s (same o y) refl;
-      managed = λ y s. at_managed y s (same o y) refl;
+      totals = λ y s. without total_of refl (same o y) (O y) (O' y) (rows y) s _ (λ e. nothing_to y e (is_to y s) (λ x k. grind (arith, k))) (h.totals y s);
+      owed = λ y s. without owed_of refl (same o y) (O y) (O' y) (rows y) s _ (λ e. nothing_to y e (is_shaking y s) (λ x k. grind (arith, k))) (h.owed y s);
+      managed = λ y s. without managed_of refl (same o y) (O y) (O' y) (rows y) s _ (λ e. nothing_to y e (is_managing y s) (λ x k. grind (arith, k))) (h.managed y s);
       asked = h.asked;
       unasked = λ p y s own. h.unasked p y s (still_owned p y (same o y) refl (sym (owned_less objects o p y) ∙ own));
       carried = λ p y s free. at_carried p y s (same o y) refl free;
       carried_few = h.carried_few;
     }
       where
-        at_total : (y : Identity) (s b : Bool) → same o y ≡ b → of_strength s (total_of (O' y)) ≡ count_by (is_to y s) l
-        at_total y s true e = gone_row total_of refl y e s ∙ sym (nothing_to y e (is_to y s) (λ x k. grind (arith, k)))
-        at_total y s false e = ap (λ w. of_strength s (total_of w)) (rows y ∙ ap (λ b. cond b None (O y)) e) ∙ h.totals y s
-
-        at_owed : (y : Identity) (s b : Bool) → same o y ≡ b → of_strength s (owed_of (O' y)) ≡ count_by (is_shaking y s) l
-        at_owed y s true e = gone_row owed_of refl y e s ∙ sym (nothing_to y e (is_shaking y s) (λ x k. grind (arith, k)))
-        at_owed y s false e = ap (λ w. of_strength s (owed_of w)) (rows y ∙ ap (λ b. cond b None (O y)) e) ∙ h.owed y s
-
-        at_managed : (y : Identity) (s b : Bool) → same o y ≡ b → of_strength s (managed_of (O' y)) ≡ count_by (is_managing y s) l
-        at_managed y s true e = gone_row managed_of refl y e s ∙ sym (nothing_to y e (is_managing y s) (λ x k. grind (arith, k)))
-        at_managed y s false e = ap (λ w. of_strength s (managed_of w)) (rows y ∙ ap (λ b. cond b None (O y)) e) ∙ h.managed y s
-
         still_owned : (p : ℕ) (y : Identity) (b : Bool) → same o y ≡ b → cond b false (owned_in objects p y) ≡ true → owned_in objects p y ≡ true
         still_owned p y true e own = absurd cc
         still_owned p y false e own = own

@@ -1,41 +1,10 @@
 -- The objects of what goes with a process.
-use Rattle.bd_records.proofs.Words.{Bool, Err, Identity, List, Lying, Names, None, Object, Ok, OnErr, Option, Records, RecordsAre, Reference, Result, Some, [], ap, arith, asked_of, asks, cond, false, filter, is_among, is_asked_by, is_empty, is_in_window, is_named_at, list_any, list_any-append, map}
-use Rattle.bd_records.proofs.Words.{name_at, named_by, not, number_of, on_slot, refl, same, same_eq, same_turned, sym, true, value_at, ℕ, ◌&&◌, ◌++◌, ◌||◌, ◌∙◌, ◌∷◌, ◌≡◌, ◌≤◌}
+use Rattle.bd_records.proofs.Words.{Bool, Err, Identity, List, Lying, Names, None, Object, Ok, OnErr, Option, Records, RecordsAre, Reference, Result, Some, [], ap, arith, asked_of, asks, cond, false, filter, is_among, is_asked_by, is_empty, is_in_window, list_any, list_any-append, map, name_at}
+use Rattle.bd_records.proofs.Words.{named_by, not, number_of, on_slot, or_assoc, refl, same, same_turned, sym, true, value_at, ℕ, ◌&&◌, ◌++◌, ◌||◌, ◌∙◌, ◌∷◌, ◌≡◌, ◌≤◌}
 use Rattle.bd_records.proofs.{Forgetting.{asked_to}, Holding.{asked_counts, not_empty}}
 
 pub among_append : (xs ys : List Identity) (o : Identity) → is_among (xs ++ ys) o ≡ (is_among xs o || is_among ys o)
 among_append xs ys o = list_any-append (λ i. same o i) xs ys
-
-or_none : (a b : Bool) → (a || (b || false)) ≡ (a || b)
-or_none true b = refl
-or_none false true = refl
-or_none false false = refl
-
-pub among_one : (xs : List Identity) (o x : Identity) → is_among (xs ++ o ∷ []) x ≡ (is_among xs x || same x o)
-among_one xs o x = among_append xs (o ∷ []) x ∙ or_none (is_among xs x) (same x o)
-
-or_false : (a b : Bool) → b ≡ false → a ≡ (a || b)
-or_false true b e = refl
-or_false false b e = sym e
-
-and_true : (b : Bool) → (b && true) ≡ b
-and_true true = refl
-and_true false = refl
-
-and_false : (b : Bool) → (b && false) ≡ false
-and_false true = refl
-and_false false = refl
-
--- what is asked for by its name, where that is it
-pub asked_if : (t : Names) (p : ℕ) (o x : Identity) (a : Bool) → (a || (asks t p o && same x o)) ≡ (a || (is_named_at (Some o) x && asks t p x))
-asked_if t p o x a = at (same x o) refl
-  where
-    at : (b : Bool) → same x o ≡ b → (a || (asks t p o && b)) ≡ (a || (b && asks t p x))
-    at true f = ap (λ c. a || c) (and_true (asks t p o) ∙ sym (ap (asks t p) (same_eq x o f)))
-    at false f = ap (λ c. a || c) (and_false (asks t p o))
-
-pub nothing_there : (a b : Bool) → a ≡ (a || (false && b))
-nothing_there a b = or_false a false refl
 
 -- who asks for an object has a name for it
 pub asks_named : (t : Names) (p : ℕ) (x : Identity) → asks t p x ≡ true → (n : ℕ) × (named_by t p n ≡ Some x) × (n ≤ 4294967294)
@@ -57,11 +26,7 @@ abbrev objects_of : List Reference → List Identity
 objects_of l = map (λ r. r.object) l
 
 among_cons : (q : Reference → Bool) (x : Reference) (l : List Reference) (o : Identity) → is_among (objects_of (filter q (x ∷ l))) o ≡ ((q x && same o x.object) || is_among (objects_of (filter q l)) o)
-among_cons q x l o = at (q x)
-  where
-    at : (b : Bool) → is_among (objects_of (cond b (x ∷ filter q l) (filter q l))) o ≡ ((b && same o x.object) || is_among (objects_of (filter q l)) o)
-    at true = refl
-    at false = refl
+among_cons q x l o = grind arith
 
 parts : (a w s A W : Bool) → (((a || w) && s) || (A || W)) ≡ (((s && a) || A) || ((w && s) || W))
 parts true w true A W = refl
@@ -83,10 +48,6 @@ among_either p o (x ∷ l) =
     ∙ parts (is_asked_by p x.holder) (is_in_window p x.holder) (same o x.object) (list_any (asked_to p o) l) (is_among (objects_of (filter (λ r. is_in_window p r.holder) l)) o)
     ∙ ap (λ s. ((s && is_asked_by p x.holder) || list_any (asked_to p o) l) || ((is_in_window p x.holder && same o x.object) || is_among (objects_of (filter (λ r. is_in_window p r.holder) l)) o)) (same_turned o x.object)
     ∙ ap (λ b. list_any (asked_to p o) (x ∷ l) || b) (sym (among_cons (λ r. is_in_window p r.holder) x l o))
-
-or_assoc : (a b c : Bool) → ((a || b) || c) ≡ (a || (b || c))
-or_assoc true b c = refl
-or_assoc false b c = refl
 
 -- what is there after both
 pub among_both : (t : Records) (objects : List Object) (l : List Reference) (p : ℕ) → RecordsAre t objects l → (old mid new : List Identity) → ((x : Identity) → is_among mid x ≡ (is_among old x || asks t.names p x))
@@ -115,24 +76,11 @@ nil_of_references (v ∷ vs) e = absurd cc
 -- nothing passes, and nothing is left
 pub none_passes : {A : Type 0} (q : A → Bool) (xs : List A) → list_any q xs ≡ false → filter q xs ≡ []
 none_passes q [] e = refl
-none_passes {A} q (x ∷ xs) e = at (q x) (none_passes q xs) e
-  where
-    at : (b : Bool) → (list_any q xs ≡ false → filter q xs ≡ []) → (b || list_any q xs) ≡ false → cond b (x ∷ filter q xs) (filter q xs) ≡ []
-    at true rest f = absurd (cc)
-    at false rest f = rest f
+none_passes q (x ∷ xs) e = grind (arith, none_passes q xs, e)
 
 pub not_false : (b : Bool) → (b ≡ false → ⊥) → b ≡ true
 not_false true h = refl
 not_false false h = absurd (h refl)
-
--- each holds if the other does
-pub both_ways : (a b : Bool) → (a ≡ true → b ≡ true) → (b ≡ true → a ≡ true) → a ≡ b
-both_ways true b h k = sym (h refl)
-both_ways false true h k = k refl
-both_ways false false h k = refl
-
-pub clash : {b : Bool} → b ≡ true → b ≡ false → ⊥
-clash a b = cc
 
 pub on_err_of : {T E P : Type 0} (r : Result T E) → P → OnErr r P
 on_err_of (Ok x) h = tt

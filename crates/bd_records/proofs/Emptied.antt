@@ -1,6 +1,6 @@
 -- The lists of a window's buffers, while one reference after the other is taken out of it.
-use Rattle.bd_records.proofs.Words.{Asked, Bool, Carried, Handshake, Holder, LiesIn, List, Manager, None, Option, Reference, Some, Target, [], ap, arith, buffer_of_holder, cond, eqb-true, false, filter, find, inl, inr, is_asked_by, is_in_window, is_of_buffer, list_any, not, refl, sym, true}
-use Rattle.bd_records.proofs.Words.{without_first, ℕ, ◌&&◌, ◌∙◌, ◌∷◌, ◌≡◌, ◌⊎◌}
+use Rattle.bd_records.proofs.Words.{Asked, Bool, Carried, Handshake, Holder, LiesIn, List, Manager, None, Option, Reference, Some, Target, [], ap, arith, buffer_of_holder, eqb-true, false, filter, find, inl, inr, is_asked_by, is_in_window, is_of_buffer, list_any, not, refl, sym, true, without_first}
+use Rattle.bd_records.proofs.Words.{ℕ, ◌&&◌, ◌∙◌, ◌∷◌, ◌≡◌, ◌⊎◌}
 use Rattle.bd_records.proofs.Lists.{nothing_goes}
 
 of_buffer : (b : ℕ) (h : Holder) → is_of_buffer b h ≡ true → buffer_of_holder h ≡ Some b
@@ -21,12 +21,7 @@ module _ (q p : Reference → Bool) where
   -- if none is left, the one that went was one
   last_was : (l : List Reference) (r : Reference) → find p l ≡ Some r → list_any q l ≡ true → list_any q (without_first p l) ≡ false → q r ≡ true
   last_was [] r f a n = absurd cc
-  last_was (x ∷ l) r f a n = at (p x) f n (last_was l r)
-    where
-      at : (c : Bool) → cond c (Some x) (find p l) ≡ Some r → list_any q (cond c l (x ∷ without_first p l)) ≡ false
-          → (find p l ≡ Some r → list_any q l ≡ true → list_any q (without_first p l) ≡ false → q r ≡ true) → q r ≡ true
-      at true f n rest = grind (arith, a, f, n)
-      at false f n rest = grind (arith, rest, a, f, n)
+  last_was (x ∷ l) r f a n = grind (arith, last_was l r, f, a, n)
 
   any_left : (l : List Reference) → list_any q (filter (λ x. not (p x)) l) ≡ list_any (λ x. q x && not (p x)) l
   any_left [] = refl

@@ -1,6 +1,6 @@
 -- What goes with a process, one after the other.
-use Rattle.bd_records.proofs.Words.{Asked, Bool, Carried, Handshake, Holder, Identity, List, Manager, Object, Reference, Target, [], ap, arith, buffer_of_holder, cond, false, filter, is_among, is_held, is_of_owner, is_some, map, not, own_among, owned_in, refl, same, same_turned, true, without_own}
-use Rattle.bd_records.proofs.Words.{ℕ, ◌&&◌, ◌==◌, ◌||◌, ◌∷◌, ◌≡◌}
+use Rattle.bd_records.proofs.Words.{Asked, Bool, Carried, Handshake, Holder, Identity, List, Manager, Object, Reference, Target, [], ap, arith, buffer_of_holder, false, filter, is_among, is_held, is_of_owner, is_some, map, not, own_among, owned_in, refl, same, same_turned, true, without_own, ℕ}
+use Rattle.bd_records.proofs.Words.{◌&&◌, ◌==◌, ◌||◌, ◌∷◌, ◌≡◌}
 use Rattle.bd_records.proofs.Lists.{both_filters}
 
 -- ---- what an owner has to its objects
@@ -25,12 +25,7 @@ own_none (x ∷ l) = ap (λ ys. x ∷ ys) (own_none l)
 -- among the objects of a process are those that it owns
 pub own_among_is : (p : ℕ) (objects : List Object) (o : Identity) → is_among (map (λ x. x.id) (filter (λ x. x.owner == p) objects)) o ≡ owned_in objects p o
 own_among_is p [] o = refl
-own_among_is p (x ∷ xs) o = at (x.owner == p) (own_among_is p xs o)
-  where
-    at : (b : Bool) → is_among (map (λ x. x.id) (filter (λ x. x.owner == p) xs)) o ≡ owned_in xs p o
-        → is_among (map (λ (x : Object). x.id) (cond b (x ∷ filter (λ x. x.owner == p) xs) (filter (λ x. x.owner == p) xs))) o ≡ ((same x.id o && b) || owned_in xs p o)
-    at true more = grind (arith, more, same_turned x.id o)
-    at false more = grind (arith, more)
+own_among_is p (x ∷ xs) o = grind (arith, own_among_is p xs o, same_turned x.id o)
 
 no_owner_s : (h : Holder) → is_some (buffer_of_holder h) ≡ true → is_of_owner h ≡ false
 no_owner_s (Asked q) e = refl

@@ -1,51 +1,34 @@
 -- All references go that a process asked for to one object.
-use Rattle.bd_records.proofs.Words.{Asked, Bool, Carried, Count, CountsAre, Handshake, Holder, Identity, List, Manager, NameRow, None, Object, ObjectRow, Option, Reference, Some, Target, [], and_parts, ap, arith, asked_of, beq, carried_of, cond, count_by, eq-eqb, eqb-true, false, filter}
-use Rattle.bd_records.proofs.Words.{is_asked_by, is_asking, is_carrying, is_held, is_managing, is_owner, is_shaking, is_to, lowered, managed_of, not, of_strength, option_map, owed_of, owned_in, refl, same, same_eq, same_self, same_turned, subst, sum_by-cons, sym, total_of, true, unasked, ℕ, ◌&&◌}
-use Rattle.bd_records.proofs.Words.{◌+◌, ◌==◌, ◌∙◌, ◌∷◌, ◌≡◌, ◌≤◌}
-use Rattle.bd_records.proofs.{Disowning.{count_parts, count_rest, none_in_rest}, Tallies.{row_kept}}
+use Rattle.bd_records.proofs.Words.{Asked, Bool, Carried, Count, CountsAre, Handshake, Holder, Identity, List, Manager, NameRow, None, Object, ObjectRow, Option, Reference, Some, Target, [], and_parts, ap, arith, asked_of, beq, buffer_of_holder, carried_of, cond, count_by, eq-eqb, eqb-true, false}
+use Rattle.bd_records.proofs.Words.{filter, is_asked_by, is_asking, is_carried_to, is_carrying, is_handshake, is_held, is_managers, is_managing, is_owner, is_shaking, is_some, is_to, lowered, managed_of, not, of_strength, option_map, owed_of, owned_in, refl, same, same_eq, same_self, same_turned}
+use Rattle.bd_records.proofs.Words.{subst, sum_by-cons, sym, total_of, true, unasked, ℕ, ◌&&◌, ◌+◌, ◌==◌, ◌∙◌, ◌∷◌, ◌≡◌, ◌≤◌}
+use Rattle.bd_records.proofs.{Disowning.{count_parts, count_rest, none_in_rest}, Tallies.{none_of_either, row_kept}}
 
 abbrev pub asked_to : ℕ → Identity → Reference → Bool
 asked_to p o r = same r.object o && is_asked_by p r.holder
 
+asked_only : (p q : ℕ) (h : Holder) → is_asked_by p h ≡ true → (is_some (buffer_of_holder h) ≡ false) × (is_handshake h ≡ false) × (is_managers h ≡ false) × (is_carried_to q h ≡ false)
+asked_only p q (Asked d) e = (refl, refl, refl, refl)
+asked_only p q (Carried c d) e = absurd cc
+asked_only p q (Target c d) e = absurd cc
+asked_only p q Handshake e = absurd cc
+asked_only p q Manager e = absurd cc
+
+not_true : (b : Bool) → (b ≡ true → ⊥) → b ≡ false
+not_true true h = absurd (h refl)
+not_true false h = refl
+
 pub held_not_asked : (p : ℕ) (o : Identity) (x : Reference) → is_held x ≡ true → asked_to p o x ≡ false
-held_not_asked p o x e = at x.holder refl
-  where
-    at : (h : Holder) → x.holder ≡ h → asked_to p o x ≡ false
-    at (Asked q) is = absurd (let k : is_held x ≡ false = grind (arith, is) in cc)
-    at (Carried c q) is = grind (arith, is)
-    at (Target c q) is = grind (arith, is)
-    at Handshake is = grind (arith, is)
-    at Manager is = grind (arith, is)
+held_not_asked p o x e = not_true _ (λ k. (let a = asked_only p 0 x.holder (grind (arith, k)) in grind (arith, a, e)))
 
 shaking_not_asked : (p : ℕ) (o y : Identity) (s : Bool) (x : Reference) → is_shaking y s x ≡ true → asked_to p o x ≡ false
-shaking_not_asked p o y s x e = at x.holder refl
-  where
-    at : (h : Holder) → x.holder ≡ h → asked_to p o x ≡ false
-    at (Asked q) is = absurd (let k : is_shaking y s x ≡ false = grind (arith, is) in cc)
-    at (Carried c q) is = grind (arith, is)
-    at (Target c q) is = grind (arith, is)
-    at Handshake is = grind (arith, is)
-    at Manager is = grind (arith, is)
+shaking_not_asked p o y s x e = not_true _ (λ k. (let a = asked_only p 0 x.holder (grind (arith, k)) in grind (arith, a, e)))
 
 managing_not_asked : (p : ℕ) (o y : Identity) (s : Bool) (x : Reference) → is_managing y s x ≡ true → asked_to p o x ≡ false
-managing_not_asked p o y s x e = at x.holder refl
-  where
-    at : (h : Holder) → x.holder ≡ h → asked_to p o x ≡ false
-    at (Asked q) is = absurd (let k : is_managing y s x ≡ false = grind (arith, is) in cc)
-    at (Carried c q) is = grind (arith, is)
-    at (Target c q) is = grind (arith, is)
-    at Handshake is = grind (arith, is)
-    at Manager is = grind (arith, is)
+managing_not_asked p o y s x e = not_true _ (λ k. (let a = asked_only p 0 x.holder (grind (arith, k)) in grind (arith, a, e)))
 
 carrying_not_asked : (p q : ℕ) (o y : Identity) (s : Bool) (x : Reference) → is_carrying q y s x ≡ true → asked_to p o x ≡ false
-carrying_not_asked p q o y s x e = at x.holder refl
-  where
-    at : (h : Holder) → x.holder ≡ h → asked_to p o x ≡ false
-    at (Asked d) is = absurd (let k : is_carrying q y s x ≡ false = grind (arith, is) in cc)
-    at (Carried c d) is = grind (arith, is)
-    at (Target c d) is = grind (arith, is)
-    at Handshake is = grind (arith, is)
-    at Manager is = grind (arith, is)
+carrying_not_asked p q o y s x e = not_true _ (λ k. (let a = asked_only p q x.holder (grind (arith, k)) in grind (arith, a, e)))
 
 one_asker : (p q : ℕ) (h : Holder) → is_asked_by p h ≡ true → is_asked_by q h ≡ true → p ≡ q
 one_asker p q (Asked d) a b = sym (eqb-true d p a) ∙ eqb-true d q b
@@ -116,10 +99,8 @@ module _ (p : ℕ) (o : Identity) where
     own_total s = ap (λ w. of_strength s (total_of w)) own_row ∙ left s (O o) (asked_of (N p o)) _ _ _ (h.totals o s) (h.asked p o s) (parts s)
 
     none_left : (s : Bool) (w : Option NameRow) → of_strength s (asked_of (option_map unasked w)) ≡ 0
-    none_left true None = refl
-    none_left false None = refl
-    none_left true (Some v) = refl
-    none_left false (Some v) = refl
+    none_left s None = none_of_either s
+    none_left s (Some v) = none_of_either s
 
     none_asked : (s : Bool) → count_by (is_asking p o s) (unasked_by l) ≡ 0
     none_asked s = none_in_rest (is_asking p o s) (asked_to p o) (λ x k. grind (arith, k)) l
@@ -165,10 +146,4 @@ module _ (p : ℕ) (o : Identity) where
 -- where none is counted, none is there
 pub nothing_asked : (p : ℕ) (o : Identity) (l : List Reference) → count_by (is_asking p o false) l ≡ 0 → count_by (is_asking p o true) l ≡ 0 → unasked_by p o l ≡ l
 nothing_asked p o [] a b = refl
-nothing_asked p o (x ∷ l) a b = at (asked_to p o x) refl x.strong refl (nothing_asked p o l)
-  where
-    at : (d : Bool) → asked_to p o x ≡ d → (s : Bool) → x.strong ≡ s → (count_by (is_asking p o false) l ≡ 0 → count_by (is_asking p o true) l ≡ 0 → unasked_by p o l ≡ l)
-        → cond (not d) (x ∷ unasked_by p o l) (unasked_by p o l) ≡ x ∷ l
-    at false e s f more = ap (λ ys. x ∷ ys) (more (grind (arith, a, sum_by-cons (λ z. cond (is_asking p o false z) 1 0) x l)) (grind (arith, b, sum_by-cons (λ z. cond (is_asking p o true z) 1 0) x l)))
-    at true e true f more = absurd (let k : is_asking p o true x ≡ true = grind (arith, e, f) in grind (arith, b, k, sum_by-cons (λ z. cond (is_asking p o true z) 1 0) x l))
-    at true e false f more = absurd (let k : is_asking p o false x ≡ true = grind (arith, e, f) in grind (arith, a, k, sum_by-cons (λ z. cond (is_asking p o false z) 1 0) x l))
+nothing_asked p o (x ∷ l) a b = grind (arith, nothing_asked p o l, a, b, sum_by-cons (λ z. cond (is_asking p o false z) 1 0) x l, sum_by-cons (λ z. cond (is_asking p o true z) 1 0) x l)

@@ -1,27 +1,11 @@
 -- What is found by its key, in a list of which no two elements have one key.
-use Rattle.bd_records.proofs.Words.{AreDistinct, Bool, List, None, Option, Some, [], ap, changed, cond, false, filter, find, kept, option_map, refl, subst, sym, true, ◌&&◌, ◌∙◌, ◌∷◌, ◌≡◌}
+use Rattle.bd_records.proofs.Words.{AreDistinct, Bool, List, None, Option, Some, [], ap, changed, cond, false, filter, find, kept, option_map, refl, subst, true, ◌&&◌, ◌∙◌, ◌∷◌, ◌≡◌}
 use Rattle.bd_records.proofs.Distinct.{cons_none, filter_none, none_cons}
-
--- what is found passes
 
 module _ {A K : Type 0} (key : A → K) (eq : K → K → Bool) (alike : (a b : K) → eq a b ≡ true → a ≡ b)
     (itself : (a : K) → eq a a ≡ true) where
   abbrev on : K → A → Bool
   on k x = eq (key x) k
-
-  pub turned : (a b : K) → eq a b ≡ false → eq b a ≡ false
-  turned a b e = by (eq b a) refl
-    where
-      by : (t : Bool) → eq b a ≡ t → t ≡ false
-      by false h = refl
-      by true h = let same : eq a b ≡ true = subst (λ c. eq a c ≡ true) (sym (alike b a h)) (itself a) in absurd (cc)
-
-  pub turn : (a b : K) → eq a b ≡ eq b a
-  turn a b = by (eq a b) refl
-    where
-      by : (t : Bool) → eq a b ≡ t → t ≡ eq b a
-      by true h = sym (subst (λ c. eq c a ≡ true) (alike a b h) (itself a))
-      by false h = sym (turned a b h)
 
   -- an element is found by its own key
   pub found_own : (p : A → Bool) (xs : List A) (x : A) → AreDistinct key eq xs → find p xs ≡ Some x

@@ -1,14 +1,10 @@
 -- The least number that names nothing is the one that a new name gets.
-use Rattle.bd_records.proofs.Words.{Bool, List, Name, None, Some, [], cond, eqb, false, find, free_number_from, is_some, list_any, named_in, none_is, not, option_map, refl, subst, sym, true, ℕ, ◌&&◌, ◌||◌, ◌∙◌, ◌∷◌, ◌≡◌}
+use Rattle.bd_records.proofs.Words.{Bool, List, Name, None, [], arith, eqb, false, find, free_number_from, is_some, list_any, named_in, none_is, not, option_map, refl, subst, sym, true, ℕ, ◌&&◌, ◌∙◌, ◌∷◌, ◌≡◌}
 use Rattle.bd_records.proofs.FreeNumbers.{free_is}
 
 pub any_is_some : {A B : Type 0} (f : A → B) (key : A → Bool) (xs : List A) → list_any key xs ≡ is_some (option_map f (find key xs))
 any_is_some f key [] = refl
-any_is_some f key (x ∷ xs) = at (key x) (any_is_some f key xs)
-  where
-    at : (a : Bool) → list_any key xs ≡ is_some (option_map f (find key xs)) → (a || list_any key xs) ≡ is_some (option_map f (cond a (Some x) (find key xs)))
-    at true h = refl
-    at false h = h
+any_is_some f key (x ∷ xs) = grind (arith, any_is_some f key xs)
 
 module _ (p : ℕ) (names : List Name) where
   abbrev used : ℕ → Bool

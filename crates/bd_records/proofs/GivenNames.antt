@@ -1,13 +1,9 @@
 -- Names that were given since the table was settled.
-use Rattle.bd_records.proofs.Words.{Bool, Identity, List, Name, None, [], ap, append-nil, append_assoc, arith, cond, is_some, length, length-append, new_number, number_in, refl, sym, with_number, ℕ, ◌++◌, ◌∙◌, ◌∷◌, ◌≡◌, ◌≤◌}
+use Rattle.bd_records.proofs.Words.{Bool, Identity, List, Name, None, [], ap, append-nil, append_assoc, arith, cond, is_some, length, new_number, number_in, refl, sym, with_number, ℕ, ◌++◌, ◌∙◌, ◌∷◌, ◌≡◌, ◌≤◌}
 
 pub nil_of : {A : Type 0} (xs : List A) → length xs ≤ 0 → xs ≡ []
 nil_of [] h = refl
 nil_of (x ∷ xs) h = absurd (omega arith)
-
--- A list that is itself with the given names behind it had none given.
-none_given : (l given : List Name) → l ≡ l ++ given → given ≡ []
-none_given l given e = let long = ap length e ∙ length-append l given in nil_of given (omega arith)
 
 -- all of it was taken back
 pub all_back : (base given : List Name) → length given ≤ 0 → base ++ given ≡ base

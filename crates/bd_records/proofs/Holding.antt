@@ -1,6 +1,7 @@
 -- What is kept and what is told of objects and references.
-use Rattle.bd_records.proofs.Words.{Asked, Bool, Carried, Count, CountsAre, Handshake, Holder, Identity, List, Manager, NameRow, Object, ObjectRow, Option, Reference, Some, Target, [], ap, arith, asked_of, beq, carried_of, cond, count_by, eqb-true, false, gives_name_to, held_in, is_asked_by}
-use Rattle.bd_records.proofs.Words.{is_asking, is_carried_to, is_carrying, is_empty, is_handshake, is_held, is_shaking, is_to, list_any, nat_lt, not, of_strength, owned_in, refl, same, same_eq, strong_in, sym, true, without_first, ℕ, ◌&&◌, ◌-◌, ◌||◌, ◌∙◌, ◌∷◌, ◌≡◌}
+use Rattle.bd_records.proofs.Words.{Asked, Bool, Carried, Count, CountsAre, Handshake, Holder, Identity, List, Manager, NameRow, Object, ObjectRow, Option, Records, RecordsAre, Reference, Some, Target, [], ap, arith, asked_of, beq, carried_of, cond, count_by, eqb-true, false, gives_name_to, held_in}
+use Rattle.bd_records.proofs.Words.{is_asked_by, is_asking, is_carried_to, is_carrying, is_empty, is_handshake, is_held, is_shaking, is_to, list_any, name_at, nat_lt, not, of_strength, owed_of, owned_in, refl, row_at, same, same_eq, strong_in, sym, total_of, true, without_first, ℕ, ◌&&◌, ◌-◌, ◌||◌}
+use Rattle.bd_records.proofs.Words.{◌∙◌, ◌∷◌, ◌≡◌}
 use Rattle.bd_records.proofs.{Lists.{any_counts, found_is, found_passes}, Tallies.{Test, count_first, on}}
 
 -- ---- which reference goes
@@ -143,3 +144,27 @@ given_last true true named h = refl
 given_last true false named h = refl
 given_last false true named h = h refl
 given_last false false named h = h refl
+
+-- ---- what records tell
+
+module _ (t : Records) (objects : List Object) (l : List Reference) (h : RecordsAre t objects l) where
+  pub held_told : (o : Identity) (w : Option ObjectRow) → row_at t.objects o ≡ w → not (is_empty (total_of w)) ≡ held_in l o
+  held_told o w is =
+      not_empty (total_of w) _ _ (ap (λ v. of_strength false (total_of v)) (sym is) ∙ h.counts.totals o false) (ap (λ v. of_strength true (total_of v)) (sym is) ∙ h.counts.totals o true)
+      ∙ sym (held_counts o l)
+
+  pub strong_told : (o : Identity) (w : Option ObjectRow) → row_at t.objects o ≡ w → nat_lt 0 (of_strength true (total_of w)) ≡ strong_in l o
+  strong_told o w is = ap (nat_lt 0) (ap (λ v. of_strength true (total_of v)) (sym is) ∙ h.counts.totals o true) ∙ sym (strong_counts o l)
+
+  pub shaken_told : (o : Identity) (s : Bool) (w : Option ObjectRow) → row_at t.objects o ≡ w → nat_lt 0 (of_strength s (owed_of w)) ≡ list_any (is_shaking o s) l
+  shaken_told o s w is = ap (nat_lt 0) (ap (λ v. of_strength s (owed_of v)) (sym is) ∙ h.counts.owed o s) ∙ sym (any_counts (is_shaking o s) l)
+
+  pub asked_told : (p : ℕ) (o : Identity) (s : Bool) (w : Option NameRow) → name_at t.names p o ≡ w → nat_lt 0 (of_strength s (asked_of w)) ≡ list_any (is_asking p o s) l
+  asked_told p o s w is = ap (nat_lt 0) (ap (λ v. of_strength s (asked_of v)) (sym is) ∙ h.counts.asked p o s) ∙ sym (any_counts (is_asking p o s) l)
+
+  pub strongly_told : (p : ℕ) (o : Identity) → owned_in objects p o ≡ false → (w : Option NameRow) → name_at t.names p o ≡ w
+      → (nat_lt 0 (of_strength true (asked_of w)) || nat_lt 0 (of_strength true (carried_of w))) ≡ list_any (λ r. r.strong && same r.object o && gives_name_to p r.holder) l
+  strongly_told p o free w is =
+      let a = ap (λ v. of_strength true (asked_of v)) (sym is) ∙ h.counts.asked p o true in
+      let b = ap (λ v. of_strength true (carried_of v)) (sym is) ∙ h.counts.carried p o true free in
+      (λ i. nat_lt 0 (a i) || nat_lt 0 (b i)) ∙ sym (strongly_counts p o l)

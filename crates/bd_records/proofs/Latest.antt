@@ -21,16 +21,8 @@ module _ (S S' : Identity → Option ℕ) (o : Identity) (latest : ℕ) (old : N
 
   -- one is noted no more
   pub gone : (a : Bool) → ((x : Identity) → S' x ≡ cond (a && same o x) None (S x)) → NotLater S' latest
-  gone a is x k e = at (a && same o x) (sym (is x) ∙ e)
-    where
-      at : (b : Bool) → cond b None (S x) ≡ Some k → pair x.place x.index ≤ latest
-      at true t = absurd (cc)
-      at false t = old x k t
+  gone a is x k e = grind (arith, is x, e, old x k)
 
 -- where all go, none is noted
 pub all_gone : (S S' : Identity → Option ℕ) (latest : ℕ) → NotLater S latest → (a : Bool) → ((x : Identity) → S' x ≡ cond a None (S x)) → NotLater S' latest
-all_gone S S' latest old a is x k e = at a (sym (is x) ∙ e)
-  where
-    at : (b : Bool) → cond b None (S x) ≡ Some k → pair x.place x.index ≤ latest
-    at true t = absurd (cc)
-    at false t = old x k t
+all_gone S S' latest old a is x k e = grind (arith, is x, e, old x k)

@@ -1,12 +1,9 @@
 -- Names of which none has a number past the limit.
-use Rattle.bd_records.proofs.Words.{Bool, List, Name, None, [], arith, cond, eqb, eqb-true, false, filter, has_number_past_limit, list_any, list_any-append, named_in, nat_lt, nat_tests, or_from, or_parts, refl, true, ℕ, ◌++◌, ◌<◌, ◌∙◌, ◌∷◌, ◌≡◌}
+use Rattle.bd_records.proofs.Words.{Bool, List, Name, None, [], arith, eqb, eqb-true, false, filter, has_number_past_limit, list_any, list_any-append, named_in, nat_lt, nat_tests, or_from, or_parts, refl, true, ℕ, ◌++◌, ◌<◌, ◌∙◌, ◌∷◌, ◌≡◌}
 
 none_filter : {A : Type 0} (p q : A → Bool) (xs : List A) → list_any p xs ≡ false → list_any p (filter q xs) ≡ false
 none_filter p q [] h = refl
-none_filter p q (x ∷ xs) h =
-    let n = or_parts (p x) (list_any p xs) h in
-    let rest = none_filter p q xs n.1 in
-    elim (q x) as (λ b. list_any p (cond b (x ∷ filter q xs) (filter q xs)) ≡ false) [ true ↦ or_from _ _ n.0 rest | false ↦ rest ]
+none_filter p q (x ∷ xs) h = grind (arith, none_filter p q xs, h)
 
 pub fits_filter : (q : Name → Bool) (names : List Name) → has_number_past_limit names ≡ false → has_number_past_limit (filter q names) ≡ false
 fits_filter q names h = none_filter (λ (m : Name). nat_lt 4294967294 m.number) q names h

@@ -98,10 +98,6 @@ next_is t l h p from None none le there before = λ n le. elim (cases_lt n 42949
 ]
 next_is t l h p from (Some n) none le there before = (le, ap is_some (h.objects_are p n) ∙ there, λ m le lt. h.objects_are p m ∙ before m le lt)
 
-none_either : {A : Type 0} (b : Bool) → (let n : Option A = None in n ≡ cond b n n)
-none_either true = refl
-none_either false = refl
-
 -- all names of a process go
 module _ (p : ℕ) where
   abbrev other : Name → Bool
@@ -110,7 +106,7 @@ module _ (p : ℕ) where
   -- none of one that goes is found, and each of another is
   left_found : {A : Type 0} (f : Name → A) (k : Name → Bool) (q : ℕ) → ((m : Name) → k m ≡ true → m.process ≡ q) → (l : List Name)
       → option_map f (find k (filter other l)) ≡ cond (p == q) None (option_map f (find k l))
-  left_found f k q of [] = none_either (p == q)
+  left_found f k q of [] = grind arith
   left_found f k q of (m ∷ l) = at (m.process == p) refl (k m) refl (p == q) refl (left_found f k q of l)
     where
       at : (a : Bool) → (m.process == p) ≡ a → (b : Bool) → k m ≡ b → (d : Bool) → (p == q) ≡ d → option_map f (find k (filter other l)) ≡ cond (p == q) None (option_map f (find k l))

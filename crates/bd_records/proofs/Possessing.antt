@@ -81,13 +81,7 @@ values_less k m (r ∷ rs) apart ids e = at (r.key == k) refl (same r.held.value
 
 pub possessions_less : (objects : List Object) (i : Identity) → filter (λ (v : Possession). not (same v.id i)) (map possession objects) ≡ map possession (filter (λ y. not (same y.id i)) objects)
 possessions_less [] i = refl
-possessions_less (x ∷ xs) i = at (same x.id i) (possessions_less xs i)
-  where
-    at : (b : Bool) → filter (λ (v : Possession). not (same v.id i)) (map possession xs) ≡ map possession (filter (λ y. not (same y.id i)) xs)
-        → cond (not b) (possession x ∷ filter (λ (v : Possession). not (same v.id i)) (map possession xs)) (filter (λ (v : Possession). not (same v.id i)) (map possession xs))
-        ≡ map possession (cond (not b) (x ∷ filter (λ y. not (same y.id i)) xs) (filter (λ y. not (same y.id i)) xs))
-    at true more = more
-    at false more = ap (λ vs. possession x ∷ vs) more
+possessions_less (x ∷ xs) i = grind (arith, possessions_less xs i)
 
 pub possessions_apart : (objects : List Object) → AreDistinct id_key same objects → AreDistinct id_of same (map possession objects)
 possessions_apart [] d = tt
@@ -106,18 +100,7 @@ ids_of (x ∷ xs) = ap (λ is. x.id ∷ is) (ids_of xs)
 -- those of one owner
 pub possessions_of : (p : ℕ) (objects : List Object) → filter (λ (v : Possession). p == v.owner) (map possession objects) ≡ map possession (filter (λ x. x.owner == p) objects)
 possessions_of p [] = refl
-possessions_of p (x ∷ xs) = at (x.owner == p) (p == x.owner) (turned p x.owner) (possessions_of p xs)
-  where
-    turned : (a b : ℕ) → (a == b) ≡ (b == a)
-    turned a b = grind arith
-
-    at : (b c : Bool) → c ≡ b → filter (λ (v : Possession). p == v.owner) (map possession xs) ≡ map possession (filter (λ x. x.owner == p) xs)
-        → cond c (possession x ∷ filter (λ (v : Possession). p == v.owner) (map possession xs)) (filter (λ (v : Possession). p == v.owner) (map possession xs))
-        ≡ map possession (cond b (x ∷ filter (λ x. x.owner == p) xs) (filter (λ x. x.owner == p) xs))
-    at true true e more = ap (λ vs. possession x ∷ vs) more
-    at false false e more = more
-    at true false e more = absurd cc
-    at false true e more = absurd cc
+possessions_of p (x ∷ xs) = grind (arith, possessions_of p xs)
 
 -- ---- the relation
 

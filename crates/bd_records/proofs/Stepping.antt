@@ -59,11 +59,7 @@ module _ (p : ℕ) (V V' : ℕ → ℕ → Option NameRow) (A B : ℕ → Identi
       at false e = rest q x e
 
   pub ended_named : (q n : ℕ) → option_map object_of (V' q n) ≡ cond (p == q) None (option_map object_of (V q n))
-  ended_named q n = ap (option_map object_of) (closed q n) ∙ at (p == q)
-    where
-      at : (b : Bool) → option_map object_of (cond b None (V q n)) ≡ cond b None (option_map object_of (V q n))
-      at true = refl
-      at false = refl
+  ended_named q n = grind (arith, closed q n)
 
   pub ended_names : (q : ℕ) (x : Identity) → on_slot None (V' q) (B q x) ≡ cond (p == q) None (on_slot None (V q) (A q x))
   ended_names q x = at (p == q) refl
@@ -78,22 +74,10 @@ module _ (p : ℕ) (V V' : ℕ → ℕ → Option NameRow) (A B : ℕ → Identi
 
   pub ended_found : ((q : ℕ) (x : Identity) (n : ℕ) → option_map object_of (V q n) ≡ Some x → A q x ≡ Some n)
       → (q : ℕ) (x : Identity) (n : ℕ) → option_map object_of (V' q n) ≡ Some x → B q x ≡ Some n
-  ended_found found q x n is = at (p == q) refl
-    where
-      at : (b : Bool) → (p == q) ≡ b → B q x ≡ Some n
-      at true e = absurd (let h : None ≡ Some x = sym (ended_named q n ∙ ap (λ b. cond b None (option_map object_of (V q n))) e) ∙ is in cc)
-      at false e = rest q x e ∙ found q x n (sym (ended_named q n ∙ ap (λ b. cond b None (option_map object_of (V q n))) e) ∙ is)
+  ended_found found q x n is = grind (arith, is, ended_named q n, ended_numbers q x, found q x n)
 
   pub ended_leads : (q : ℕ) (x : Identity) (n : ℕ) → B q x ≡ Some n → option_map object_of (V' q n) ≡ Some x
-  ended_leads q x n is = at (p == q) refl
-    where
-      at : (b : Bool) → (p == q) ≡ b → option_map object_of (V' q n) ≡ Some x
-      at true e = absurd (let h : None ≡ Some n = sym (ended_numbers q x ∙ ap (λ b. cond b None (A q x)) e) ∙ is in cc)
-      at false e = ended_named q n ∙ ap (λ b. cond b None (option_map object_of (V q n))) e ∙ leads q x n (sym (rest q x e) ∙ is)
+  ended_leads q x n is = grind (arith, is, ended_named q n, ended_numbers q x, leads q x n)
 
   pub ended_small : (q : ℕ) (x : Identity) (n : ℕ) → B q x ≡ Some n → n ≤ 4294967294
-  ended_small q x n is = at (p == q) refl
-    where
-      at : (b : Bool) → (p == q) ≡ b → n ≤ 4294967294
-      at true e = absurd (let h : None ≡ Some n = sym (ended_numbers q x ∙ ap (λ b. cond b None (A q x)) e) ∙ is in cc)
-      at false e = small q x n (sym (rest q x e) ∙ is)
+  ended_small q x n is = grind (arith, is, ended_numbers q x, small q x n)

@@ -1,7 +1,7 @@
 -- Each counter, when a reference came or went.
-use Rattle.bd_records.proofs.Words.{Asked, Bool, BuffersAre, Carried, Count, CountsAre, Handshake, Holder, Identity, IsHomed, List, Manager, None, Object, ObjectRow, Option, OwnedAre, Records, RecordsAre, Reference, Some, Target, [], ap, arith, asked_of, beq, carried_of, cond, count_by}
-use Rattle.bd_records.proofs.Words.{count_by-le-length, false, find, gives_name_to, is_asked, is_asked_by, is_asking, is_carried, is_carried_to, is_carrying, is_handshake, is_managers, is_managing, is_owner, is_shaking, is_some, is_to, length, managed_of, name_at, name_turned, no_count, of_strength}
-use Rattle.bd_records.proofs.Words.{option_map, owed_of, owned_in, refl, row_at, same, same_eq, subst, sum_by-cons, sum_by_push, sym, total_of, true, turned, turned_count, turned_if, without_first, ℕ, ◌&&◌, ◌++◌, ◌+◌, ◌-◌, ◌<◌, ◌∙◌, ◌∷◌, ◌≡◌, ◌≤◌}
+use Rattle.bd_records.proofs.Words.{Asked, Bool, BuffersAre, Carried, Count, CountsAre, Handshake, Holder, Identity, IsHomed, List, Manager, None, Object, ObjectRow, Option, OwnedAre, Records, RecordsAre, Reference, Some, Target, [], and-false, and-true, ap, arith, asked_of, beq, carried_of, cond}
+use Rattle.bd_records.proofs.Words.{count_by, count_by-le-length, false, find, gives_name_to, is_asked, is_asked_by, is_asking, is_carried, is_carried_to, is_carrying, is_handshake, is_managers, is_managing, is_owner, is_shaking, is_some, is_to, length, managed_of, name_at, name_turned, no_count}
+use Rattle.bd_records.proofs.Words.{of_strength, option_map, owed_of, owned_in, refl, row_at, same, same_eq, subst, sum_by-cons, sum_by_push, sym, total_of, true, turned, turned_count, turned_if, without_first, ℕ, ◌&&◌, ◌++◌, ◌+◌, ◌-◌, ◌<◌, ◌∙◌, ◌∷◌, ◌≡◌, ◌≤◌}
 
 -- ---- one counter
 
@@ -17,14 +17,6 @@ none_after false k n e = grind (arith, e)
 pub none_of_either : (s : Bool) → of_strength s no_count ≡ 0
 none_of_either true = refl
 none_of_either false = refl
-
-and_true : (b : Bool) → (b && true) ≡ b
-and_true true = refl
-and_true false = refl
-
-and_false : (b : Bool) → (b && false) ≡ false
-and_false true = refl
-and_false false = refl
 
 turned_strength : (more s b : Bool) (c : Count) (n : ℕ) → of_strength s c ≡ n → (more ≡ true → n < 18446744073709551615) → of_strength s (turned_count more b c) ≡ after more n (cond (beq b s) 1 0)
 turned_strength true true true c n e few = grind (arith, e, few refl)
@@ -49,10 +41,10 @@ turned_few false false false c n e = grind (arith, e)
 -- d: the record is the reference's; t: the counter is one that it belongs to
 module _ {W : Type 0} (f : Option W → Count) (up : W → W) (more b t : Bool) (up_is : (v : W) → f (Some (up v)) ≡ turned_if t more b (f (Some v))) (none : f None ≡ no_count) (s : Bool) (n : ℕ) where
   off : (t : Bool) → ((beq b s && false) && t) ≡ false
-  off t = ap (λ k. k && t) (and_false (beq b s))
+  off t = ap (λ k. k && t) (and-false (beq b s))
 
   on_both : ((beq b s && true) && true) ≡ beq b s
-  on_both = and_true (beq b s && true) ∙ and_true (beq b s)
+  on_both = and-true (beq b s && true) ∙ and-true (beq b s)
 
   counted : (d : Bool) (w : Option W) → (more ≡ true → n < 18446744073709551615) → (more ≡ true → (d && t) ≡ true → is_some w ≡ true) → of_strength s (f w) ≡ n
       → of_strength s (f (cond d (option_map up w) w)) ≡ after more n (cond ((beq b s && d) && t) 1 0)
@@ -61,12 +53,12 @@ module _ {W : Type 0} (f : Option W → Count) (up : W → W) (more b t : Bool) 
     where
       at : (u : Bool) → f (Some (up v)) ≡ turned_if u more b (f (Some v)) → of_strength s (f (Some (up v))) ≡ after more n (cond ((beq b s && true) && u) 1 0)
       at true is = ap (of_strength s) is ∙ turned_strength more s b (f (Some v)) n e few ∙ ap (λ k. after more n (cond k 1 0)) (sym on_both)
-      at false is = ap (of_strength s) is ∙ e ∙ sym (none_after more _ n (and_false (beq b s && true)))
+      at false is = ap (of_strength s) is ∙ e ∙ sym (none_after more _ n (and-false (beq b s && true)))
   counted true None few there e = at more t there
     where
       at : (m u : Bool) → (m ≡ true → u ≡ true → false ≡ true) → of_strength s (f None) ≡ after m n (cond ((beq b s && true) && u) 1 0)
       at true true here = absurd (let h = here refl refl in cc)
-      at true false here = e ∙ sym (none_after true _ n (and_false (beq b s && true)))
+      at true false here = e ∙ sym (none_after true _ n (and-false (beq b s && true)))
       at false u here = let z = ap (of_strength s) none ∙ none_of_either s in omega (arith, e, z)
 
   counted_few : (d : Bool) (w : Option W) → of_strength s (f w) ≤ n → of_strength s (f (cond d (option_map up w) w)) ≤ after more n (cond ((beq b s && d) && t) 1 0)
@@ -75,17 +67,26 @@ module _ {W : Type 0} (f : Option W → Count) (up : W → W) (more b t : Bool) 
     where
       at : (u : Bool) → f (Some (up v)) ≡ turned_if u more b (f (Some v)) → of_strength s (f (Some (up v))) ≤ after more n (cond ((beq b s && true) && u) 1 0)
       at true is = subst (λ c. of_strength s c ≤ after more n (cond ((beq b s && true) && true) 1 0)) (sym is) (subst (λ k. of_strength s (turned_count more b (f (Some v))) ≤ after more n (cond k 1 0)) (sym on_both) (turned_few more s b (f (Some v)) n e))
-      at false is = subst (λ c. of_strength s c ≤ after more n (cond ((beq b s && true) && false) 1 0)) (sym is) (subst (λ k. of_strength s (f (Some v)) ≤ k) (sym (none_after more _ n (and_false (beq b s && true)))) e)
+      at false is = subst (λ c. of_strength s c ≤ after more n (cond ((beq b s && true) && false) 1 0)) (sym is) (subst (λ k. of_strength s (f (Some v)) ≤ k) (sym (none_after more _ n (and-false (beq b s && true)))) e)
   counted_few true None e = subst (λ c. of_strength s c ≤ after more n (cond ((beq b s && true) && t) 1 0)) (sym none) (subst (λ k. k ≤ after more n (cond ((beq b s && true) && t) 1 0)) (sym (none_of_either s)) (omega arith))
 
--- ---- which counters
+-- a counter of a record that may go, where none counts for it
+module _ {W : Type 0} (f : Option W → Count) (none : f None ≡ no_count) (b : Bool) (w v : Option W) (is : v ≡ cond b None w) (s : Bool) (n : ℕ) where
+  pub without : (b ≡ true → n ≡ 0) → of_strength s (f w) ≡ n → of_strength s (f v) ≡ n
+  without gone e = ap (λ x. of_strength s (f x)) is ∙ at b refl
+    where
+      at : (c : Bool) → b ≡ c → of_strength s (f (cond c None w)) ≡ n
+      at true k = ap (of_strength s) none ∙ none_of_either s ∙ sym (gone k)
+      at false k = e
 
-asked_gives : (p : ℕ) (h : Holder) → is_asked_by p h ≡ true → gives_name_to p h ≡ true
-asked_gives p (Asked q) e = e
-asked_gives p (Carried c q) e = absurd cc
-asked_gives p (Target c q) e = absurd cc
-asked_gives p Handshake e = absurd cc
-asked_gives p Manager e = absurd cc
+  pub without_few : of_strength s (f w) ≤ n → of_strength s (f v) ≤ n
+  without_few e = subst (λ x. of_strength s (f x) ≤ n) (sym is) (at b)
+    where
+      at : (c : Bool) → of_strength s (f (cond c None w)) ≤ n
+      at true = subst (λ k. k ≤ n) (sym (ap (of_strength s) none ∙ none_of_either s)) (omega arith)
+      at false = e
+
+-- ---- which counters
 
 asked_hit : (p : ℕ) (a b : Bool) (h : Holder) → ((a && (gives_name_to p h && b)) && is_asked h) ≡ ((a && b) && is_asked_by p h)
 asked_hit p a b (Asked q) = grind arith
@@ -146,7 +147,7 @@ module _ (more : Bool) (t u : Records) (objects : List Object) (l m : List Refer
   counts_turned : CountsAre (row_at u.objects) (name_at u.names) objects m
   counts_turned = record {
     totals = λ o s. ap (λ w. of_strength s (total_of w)) (os o) ∙ counted total_of (turned more r) more r.strong true (λ v. refl) refl s _ (same r.object o) (row_at t.objects o) (short (is_to o s)) (λ e k. there o e (grind (arith, k))) (h.counts.totals o s)
-        ∙ ap (λ k. after more (count_by (is_to o s) l) (cond k 1 0)) (and_true (beq r.strong s && same r.object o)) ∙ sym (comes (λ x t k. beq t s && same x o));
+        ∙ ap (λ k. after more (count_by (is_to o s) l) (cond k 1 0)) (and-true (beq r.strong s && same r.object o)) ∙ sym (comes (λ x t k. beq t s && same x o));
     owed = λ o s. ap (λ w. of_strength s (owed_of w)) (os o) ∙ counted owed_of (turned more r) more r.strong (is_handshake r.holder) (λ v. refl) refl s _ (same r.object o) (row_at t.objects o) (short (is_shaking o s)) (λ e k. there o e (grind (arith, k))) (h.counts.owed o s)
         ∙ sym (comes (λ x t k. beq t s && same x o && is_handshake k));
     managed = λ o s. ap (λ w. of_strength s (managed_of w)) (os o) ∙ counted managed_of (turned more r) more r.strong (is_managers r.holder) (λ v. refl) refl s _ (same r.object o) (row_at t.objects o) (short (is_managing o s)) (λ e k. there o e (grind (arith, k))) (h.counts.managed o s)
@@ -186,18 +187,9 @@ count_push f l r = sum_by_push (λ x. cond (f x) 1 0) l r
 -- what is found is counted
 pub in_count : (p f : Reference → Bool) (l : List Reference) (x : Reference) → find p l ≡ Some x → cond (f x) 1 0 ≤ count_by f l
 in_count p f [] x e = absurd cc
-in_count p f (y ∷ ys) x e = at (p y) e (in_count p f ys x)
-  where
-    at : (b : Bool) → cond b (Some y) (find p ys) ≡ Some x → (find p ys ≡ Some x → cond (f x) 1 0 ≤ count_by f ys) → cond (f x) 1 0 ≤ count_by f (y ∷ ys)
-    at true e more = grind (arith, e, sum_by-cons (λ z. cond (f z) 1 0) y ys)
-    at false e more = grind (arith, more e, sum_by-cons (λ z. cond (f z) 1 0) y ys)
+in_count p f (y ∷ ys) x e = grind (arith, in_count p f ys x, e, sum_by-cons (λ z. cond (f z) 1 0) y ys)
 
 -- the first that passes goes
 pub count_first : (p f : Reference → Bool) (l : List Reference) (x : Reference) → find p l ≡ Some x → count_by f (without_first p l) ≡ count_by f l - cond (f x) 1 0
 count_first p f [] x e = absurd cc
-count_first p f (y ∷ ys) x e = at (p y) e (count_first p f ys x)
-  where
-    at : (b : Bool) → cond b (Some y) (find p ys) ≡ Some x → (find p ys ≡ Some x → count_by f (without_first p ys) ≡ count_by f ys - cond (f x) 1 0)
-        → count_by f (cond b ys (y ∷ without_first p ys)) ≡ count_by f (y ∷ ys) - cond (f x) 1 0
-    at true e more = grind (arith, e, sum_by-cons (λ z. cond (f z) 1 0) y ys)
-    at false e more = grind (arith, more e, in_count p f ys x e, sum_by-cons (λ z. cond (f z) 1 0) y ys, sum_by-cons (λ z. cond (f z) 1 0) y (without_first p ys))
+count_first p f (y ∷ ys) x e = grind (arith, count_first p f ys x, in_count p f ys x, e, sum_by-cons (λ z. cond (f z) 1 0) y ys, sum_by-cons (λ z. cond (f z) 1 0) y (without_first p ys))

@@ -1,7 +1,7 @@
 -- What an object's owner was told.
 use Rattle.bd_records.proofs.Words.{Bool, CountsAre, Identity, List, NameRow, None, Object, ObjectRow, Option, Owned, OwnedAre, Reference, Some, [], ap, arith, changed, cond, false, id_at, id_key, is_owner, managed_of, map, object_in, of_strength, option_map, owed_of, own_key, owned_in, possession}
-use Rattle.bd_records.proofs.Words.{refl, same, same_eq, same_word, subst, sym, told, total_of, true, word_eq, word_self, ℕ, ◌&&◌, ◌==◌, ◌||◌, ◌∙◌, ◌∷◌, ◌≡◌}
-use Rattle.bd_records.proofs.{Coming.{both_same, object_of}, Distinct.{changed_distinct}, Maps.{finds_hidden}, Tallies.{row_kept}}
+use Rattle.bd_records.proofs.Words.{refl, same, same_word, sym, told, total_of, true, word_eq, word_self, ℕ, ◌∙◌, ◌∷◌, ◌≡◌}
+use Rattle.bd_records.proofs.{Coming.{both_from, both_same, object_of}, Distinct.{changed_distinct}, Maps.{finds_hidden}, Tallies.{row_kept}}
 
 module _ (weak strong : Bool) (o : Identity) where
   abbrev tell : Object → Object
@@ -11,39 +11,16 @@ module _ (weak strong : Bool) (o : Identity) where
   retold objects = changed (λ x. same x.id o) (λ x. record x { told_weak = weak; told_strong = strong }) objects
 
   pub object_told : (objects : List Object) (y : Identity) → object_in (retold objects) y ≡ cond (same o y) (option_map tell (object_in objects y)) (object_in objects y)
-  object_told [] y = none (same o y)
-    where
-      none : (b : Bool) → None ≡ cond b (option_map tell None) None
-      none true = refl
-      none false = refl
-  object_told (x ∷ xs) y = at (same x.id o) refl (same o y) refl (same x.id y) refl (object_told xs y)
-    where
-      at : (a : Bool) → same x.id o ≡ a → (b : Bool) → same o y ≡ b → (c : Bool) → same x.id y ≡ c → object_in (retold xs) y ≡ cond (same o y) (option_map tell (object_in xs y)) (object_in xs y)
-          → object_in (cond a (tell x) x ∷ retold xs) y ≡ cond b (option_map tell (cond c (Some x) (object_in xs y))) (cond c (Some x) (object_in xs y))
-      at true e true f true g more = grind (arith, g)
-      at true e true f false g more = grind (arith, g, more, f)
-      at true e false f true g more = absurd (let h = subst (λ z. same z y ≡ true) (same_eq x.id o e) g in cc)
-      at true e false f false g more = grind (arith, g, more, f)
-      at false e true f true g more = absurd (let h = both_same x.id o y g f in cc)
-      at false e true f false g more = grind (arith, g, more, f)
-      at false e false f true g more = grind (arith, g)
-      at false e false f false g more = grind (arith, g, more, f)
+  object_told [] y = grind arith
+  object_told (x ∷ xs) y = grind (arith, object_told xs y, both_same x.id o y, both_from x.id o y)
 
   pub owned_told : (objects : List Object) (p : ℕ) (y : Identity) → owned_in (retold objects) p y ≡ owned_in objects p y
   owned_told [] p y = refl
-  owned_told (x ∷ xs) p y = at (same x.id o) (owned_told xs p y)
-    where
-      at : (a : Bool) → owned_in (retold xs) p y ≡ owned_in xs p y → owned_in (cond a (tell x) x ∷ retold xs) p y ≡ owned_in (x ∷ xs) p y
-      at true more = ap (λ b. (same x.id y && (x.owner == p)) || b) more
-      at false more = ap (λ b. (same x.id y && (x.owner == p)) || b) more
+  owned_told (x ∷ xs) p y = grind (arith, owned_told xs p y)
 
   possessions_told : (objects : List Object) → map possession (retold objects) ≡ map possession objects
   possessions_told [] = refl
-  possessions_told (x ∷ xs) = at (same x.id o) (possessions_told xs)
-    where
-      at : (a : Bool) → map possession (retold xs) ≡ map possession xs → map possession (cond a (tell x) x ∷ retold xs) ≡ map possession (x ∷ xs)
-      at true more = ap (λ vs. possession x ∷ vs) more
-      at false more = ap (λ vs. possession x ∷ vs) more
+  possessions_told (x ∷ xs) = grind (arith, possessions_told xs)
 
   -- neither identities nor pointers change
   pub told_owned : (t : Owned) (objects : List Object) → OwnedAre t objects → OwnedAre t (retold objects)

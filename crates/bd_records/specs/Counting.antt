@@ -1,7 +1,7 @@
 -- Which counters change with a reference, and how.
 use Rattle.std.specs.Prelude.{Bool, None, Option, Some, false, if◌then◌else◌, true, ℕ, ◌&&◌, ◌==◌}
 use Rattle.bd_space.specs.References.{is_handshake}
-use Rattle.bd_ways.specs.Words.{Asked, Carried, Handshake, Holder, Identity, Manager, Reference, beq, same}
+use Rattle.bd_ways.specs.Words.{Asked, Carried, Holder, Identity, Manager, Reference, beq, same}
 use Rattle.bd_records.specs.{Count.{less, no_count, turned_count}, declared.{count.Count.{Count}, row.{NameRow.{NameRow}, ObjectRow.{ObjectRow}}}}
 
 abbrev pub is_asked : Holder → Bool

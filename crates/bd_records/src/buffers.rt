@@ -65,39 +65,6 @@ impl Buffers {
         self.windows.reserve(more)
     }
 
-    // The reference, which lies there, comes last on both lists.
-    #[inline(always)]
-    fn insert(&mut self, berth: Berth, r: Reference)
-        requires { 1 ≤ buffer_room self.old }
-        ensures stands { (l : List declared.Reference) → refer.buffer_of_holder r.holder ≡ Some berth.buffer
-            → window_of_holder r.holder ≡ Some berth.window → BuffersAre self.old l → BuffersAre self.new (l ++ r ∷ []) }
-        ensures uses { buffer_room self.old ≤ buffer_room self.new + 1 }
-    {
-        let other = self.windows.push(
-            berth.window,
-            Lying {
-                reference: r,
-                at: 0,
-            },
-            false,
-        );
-        let slot = self.lists.push(
-            berth.buffer,
-            Lying {
-                reference: r,
-                at: other,
-            },
-            false,
-        );
-        self.windows.chains.set(
-            other,
-            Lying {
-                reference: r,
-                at: slot,
-            },
-        );
-    }
-
     /// Takes in a reference, which comes last on its buffer's list, and on its window's, if it lies in a buffer.
     #[inline(always)]
     pub fn push(&mut self, r: Reference)
@@ -106,7 +73,29 @@ impl Buffers {
         ensures uses { buffer_room self.old ≤ buffer_room self.new + 1 }
     {
         if let Some(berth) = berth_of(r.holder) {
-            self.insert(berth, r);
+            let other = self.windows.push(
+                berth.window,
+                Lying {
+                    reference: r,
+                    at: 0,
+                },
+                false,
+            );
+            let slot = self.lists.push(
+                berth.buffer,
+                Lying {
+                    reference: r,
+                    at: other,
+                },
+                false,
+            );
+            self.windows.chains.set(
+                other,
+                Lying {
+                    reference: r,
+                    at: slot,
+                },
+            );
         }
     }
 

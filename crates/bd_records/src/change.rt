@@ -5,6 +5,7 @@ ghost use Rattle.bd_space.specs.{Words.{changed, same}, declared.space.{Object.{
 ghost use Rattle.bd_space.specs.References as refer;
 
 use crate::count::Count;
+use crate::owned::push_ids;
 use crate::records::Records;
 use crate::row::ObjectRow;
 use bd_space as space;
@@ -60,7 +61,7 @@ impl Records {
         ensures grown { OnErr result ((objects : List Object) (l : List Reference) → RecordsAre self.now objects l
             → filter (λ x. x.owner == p) objects ≡ [] → ⊥) }
     {
-        self.owned.owned_by(p, touched)
+        push_ids(self.owned.of(p), touched)
     }
 
     /// Takes in an object that is new: no other has its identity, and its owner has none with its pointer. Takes whether others

@@ -24,19 +24,6 @@ fn asks(names: &Names, p: u64, o: Identity) -> bool
     }
 }
 
-// One more object comes behind what is there, if the test holds.
-fn push_if(test: bool, touched: &mut Vec<Identity>, o: Identity) -> Result<(), AllocError>
-    ensures pushed { OnOk result ((x : identity.Identity) → is_among touched.new.items x
-        ≡ (is_among touched.old.items x || (test && same_object x o))) }
-    ensures grown { OnErr result (test ≡ true) }
-{
-    if !test {
-        return Ok(());
-    }
-    touched.push(o)?;
-    Ok(())
-}
-
 // The object comes to what is there that the process asked for by this number, if it did.
 fn push_asked_at(
     names: &Names,
@@ -50,8 +37,11 @@ fn push_asked_at(
     ensures grown { OnErr result (((x : identity.Identity) → asking.asks names.now p x ≡ false) → ⊥) }
 {
     match names.named(p, n) {
-        Some(o) => push_if(asks(names, p, o), touched, o),
-        None => Ok(()),
+        Some(o) if asks(names, p, o) => {
+            touched.push(o)?;
+            Ok(())
+        }
+        _ => Ok(()),
     }
 }
 

@@ -45,8 +45,8 @@ impl Drop for Owned {
     }
 }
 
-// The objects of these come behind what is there.
-fn push_ids(
+/// The objects of these come behind what is there.
+pub(crate) fn push_ids(
     possessions: Items<'_, Possession>,
     touched: &mut Vec<Identity>,
 ) -> Result<(), AllocError>
@@ -150,18 +150,6 @@ impl Owned {
             word: ptr,
         })?;
         Some(spot.id)
-    }
-
-    /// Puts the objects that the process owns behind what is there, in the order in which they came. Fails for want of memory
-    /// alone.
-    pub fn owned_by(&self, p: u64, touched: &mut Vec<Identity>) -> Result<(), AllocError>
-        ensures pushed { OnOk result (Tells (OwnedAre self.now) touched.new.items (λ objects. touched.old.items
-            ++ map (λ x. x.id) (filter (λ x. x.owner == p) objects))) }
-        // Memory was asked for: it owns an object.
-        ensures grown { OnErr result ((objects : List declared.Object) → OwnedAre self.now objects
-            → filter (λ x. x.owner == p) objects ≡ [] → ⊥) }
-    {
-        push_ids(self.of(p), touched)
     }
 
     /// The objects of the process, in the order in which they came.

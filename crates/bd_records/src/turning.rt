@@ -1,7 +1,7 @@
 //! Counting a reference that came or went.
 
 ghost use Rattle.std.specs.Prelude.{None, Some, if◌then◌else◌, option_map, ℕ, ◌&&◌, ◌==◌, ◌≡◌, ◌≤◌};
-ghost use Rattle.bd_space.specs.{References.{gives_name_to}, Words.{is_some_and, same}};
+ghost use Rattle.bd_space.specs.{References.{gives_name_to}, Words.{same}};
 ghost use Rattle.bd_records.specs.{Names.{name_at, name_room}, NamesAre.{KeepsNames}, Objects.{object_room, row_at}};
 ghost use Rattle.bd_space.specs.declared.step.Identity as declared;
 ghost use Rattle.bd_records.specs.Counting as spec;
@@ -9,17 +9,6 @@ ghost use Rattle.bd_records.specs.Counting as spec;
 use crate::names::Names;
 use crate::objects::Objects;
 use bd_space::{Holder, Reference};
-
-/// Which process has a name for its sake.
-#[inline(always)]
-pub(crate) fn user_of(holder: Holder) -> Option<u64>
-    ensures { (p : ℕ) → gives_name_to p holder ≡ is_some_and result (λ q. q == p) }
-{
-    match holder {
-        Holder::Asked(p) | Holder::Carried(_, p) => Some(p),
-        _ => None,
-    }
-}
 
 /// Counts the reference, or no longer, in the records of its object and of the name that it gives.
 // Put into its callers, most of which know whose the reference is.
@@ -34,7 +23,8 @@ pub(crate) fn turn(objects: &mut Objects, names: &mut Names, r: Reference, more:
     ensures names_room { (q : ℕ) → name_room names.old q ≤ name_room names.new q }
 {
     objects.turn(r, more);
-    if let Some(p) = user_of(r.holder) {
+    // Whom it gives a name.
+    if let Holder::Asked(p) | Holder::Carried(_, p) = r.holder {
         names.turn(p, r, more);
     }
 }

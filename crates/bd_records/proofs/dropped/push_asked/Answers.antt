@@ -1,5 +1,5 @@
-use Rattle.bd_records.proofs.Words.{Identity, None, Some, ap, arith, asks, is_among, is_named_at, named_by, same_self, subst, sym, true, value_at, ◌<◌, ◌∙◌, ◌≡◌}
-use Rattle.bd_records.proofs.{Dropping.{asks_named, both_ways}, Stepping.{IsBefore, ahead_less, before_more, is_before, not_shown, still_ahead}}
+use Rattle.bd_records.proofs.Words.{Identity, None, Some, ap, arith, asks, both_ways, is_among, is_named_at, named_by, same_self, subst, sym, true, value_at, ◌<◌, ◌∙◌, ◌≡◌}
+use Rattle.bd_records.proofs.{Dropping.{asks_named}, Stepping.{IsBefore, ahead_less, before_more, is_before, not_shown, still_ahead}}
 use Rattle.bd_records.proofs.dropped.push_asked.Goals as goal
 
 pub loop-next-init : goal.loop-next-init

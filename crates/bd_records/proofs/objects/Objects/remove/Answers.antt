@@ -5,25 +5,19 @@ use Rattle.bd_records.proofs.objects.Objects.remove.Goals as goal
 abbrev id : ObjectRow → Identity
 id r = r.object.id
 
-pub invariant_of-self-clause-found : goal.invariant_of-self-clause-found
-invariant_of-self-clause-found c =
+pub invariant_of-self : goal.invariant_of-self
+invariant_of-self c =
     let t = c.args.self.now in
-    gone_found id (get t.rows) (get c.remove_row.new.rows) (slot_at t) (λ x. get_by (same x) c.remove_slot.new.slots) c.args.o c.in-Some.k t.found t.leads (sym c.slot_near.ensures ∙ c.in-Some.is) c.remove_row.ensures.at c.remove_slot.ensures.at
-
-pub invariant_of-self-clause-leads : goal.invariant_of-self-clause-leads
-invariant_of-self-clause-leads c =
-    let t = c.args.self.now in
-    gone_leads id (get t.rows) (get c.remove_row.new.rows) (slot_at t) (λ x. get_by (same x) c.remove_slot.new.slots) c.args.o c.in-Some.k t.found t.leads (sym c.slot_near.ensures ∙ c.in-Some.is) c.remove_row.ensures.at c.remove_slot.ensures.at
+    record {
+      found = gone_found id (get t.rows) (get c.remove_row.new.rows) (slot_at t) (λ x. get_by (same x) c.remove_slot.new.slots) c.args.o c.in-Some.k t.found t.leads (sym c.slot_near.ensures ∙ c.in-Some.is) c.remove_row.ensures.at c.remove_slot.ensures.at;
+      leads = gone_leads id (get t.rows) (get c.remove_row.new.rows) (slot_at t) (λ x. get_by (same x) c.remove_slot.new.slots) c.args.o c.in-Some.k t.found t.leads (sym c.slot_near.ensures ∙ c.in-Some.is) c.remove_row.ensures.at c.remove_slot.ensures.at;
+      not_later = gone (slot_at t) (λ x. get_by (same x) c.remove_slot.new.slots) c.args.o t.latest t.not_later true c.remove_slot.ensures.at;
+    }
 
 pub returns-in-Some-clause-at : goal.returns-in-Some-clause-at
 returns-in-Some-clause-at c =
     let t = c.args.self.now in
     gone_at id (get t.rows) (get c.remove_row.new.rows) (slot_at t) (λ x. get_by (same x) c.remove_slot.new.slots) c.args.o c.in-Some.k t.found t.leads (sym c.slot_near.ensures ∙ c.in-Some.is) c.remove_row.ensures.at c.remove_slot.ensures.at
-
-pub invariant_of-self-clause-not_later : goal.invariant_of-self-clause-not_later
-invariant_of-self-clause-not_later c =
-    let t = c.args.self.now in
-    gone (slot_at t) (λ x. get_by (same x) c.remove_slot.new.slots) c.args.o t.latest t.not_later true c.remove_slot.ensures.at
 
 pub returns-in-Some-clause-id : goal.returns-in-Some-clause-id
 returns-in-Some-clause-id c =

@@ -5,17 +5,16 @@ use Rattle.bd_records.proofs.objects.Objects.remove_of_owner.Goals as goal
 abbrev id : ObjectRow → Identity
 id r = r.object.id
 
-pub invariant_of-self-clause-found : goal.invariant_of-self-clause-found
-invariant_of-self-clause-found c =
+pub invariant_of-self : goal.invariant_of-self
+invariant_of-self c =
     let t = c.args.self.now in
-    set_found id (get t.rows) (get c.remove_of_owner_in.new.rows) (slot_at t) (slot_at t) c.args.o c.in-Some.k t.found t.leads (sym c.slot_of.ensures ∙ c.in-Some.is) (disowned) (λ w e. e) c.remove_of_owner_in.ensures.set
-
-pub invariant_of-self-clause-leads : goal.invariant_of-self-clause-leads
-invariant_of-self-clause-leads c =
-    let t = c.args.self.now in
-    set_leads id (get t.rows) (get c.remove_of_owner_in.new.rows) (slot_at t) (slot_at t) c.args.o c.in-Some.k t.found t.leads (sym c.slot_of.ensures ∙ c.in-Some.is) (disowned) (λ w e. e) c.remove_of_owner_in.ensures.set
+    record {
+      found = set_found id (get t.rows) (get c.remove_of_owner_in.new.rows) (slot_at t) (slot_at t) c.args.o c.in-Some.k t.found t.leads (sym c.slot_of.ensures ∙ c.in-Some.is) disowned (λ w e. e) c.remove_of_owner_in.ensures.set;
+      leads = set_leads id (get t.rows) (get c.remove_of_owner_in.new.rows) (slot_at t) (slot_at t) c.args.o c.in-Some.k t.found t.leads (sym c.slot_of.ensures ∙ c.in-Some.is) disowned (λ w e. e) c.remove_of_owner_in.ensures.set;
+      not_later = t.not_later;
+    }
 
 pub returns-in-Some-clause-disowned : goal.returns-in-Some-clause-disowned
 returns-in-Some-clause-disowned c =
     let t = c.args.self.now in
-    set_at id (get t.rows) (get c.remove_of_owner_in.new.rows) (slot_at t) (slot_at t) c.args.o c.in-Some.k t.found t.leads (sym c.slot_of.ensures ∙ c.in-Some.is) (disowned) (λ w e. e) c.remove_of_owner_in.ensures.set
+    set_at id (get t.rows) (get c.remove_of_owner_in.new.rows) (slot_at t) (slot_at t) c.args.o c.in-Some.k t.found t.leads (sym c.slot_of.ensures ∙ c.in-Some.is) disowned (λ w e. e) c.remove_of_owner_in.ensures.set

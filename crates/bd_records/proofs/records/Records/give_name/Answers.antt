@@ -1,5 +1,5 @@
-use Rattle.bd_records.proofs.Words.{AreBlank, IsBlank, List, Name, None, Some, ap, arith, asked_of, carried_of, cond, is_some, name_at, new_row, number_of, object_of, on_slot, option_map, row_at, subst, sym, value_at, ◌++◌, ◌∙◌, ◌≡◌}
-use Rattle.bd_records.proofs.{Asked.{counts_named}, Given.{all_put, blank_more, here, since_had}, GivenNames.{new_name, one_given}, Named.{given, new_is, past_is, some_shown}, Naming.{shown_some}}
+use Rattle.bd_records.proofs.Words.{AreBlank, IsBlank, List, Name, None, Some, ap, arith, asked_of, carried_of, cond, is_some, name_at, new_row, number_of, object_of, on_slot, option_map, refl, row_at, subst, sym, value_at, ◌++◌, ◌∙◌, ◌≡◌}
+use Rattle.bd_records.proofs.{Asked.{counts_named, renamed}, Given.{all_put, blank_more, here, since_had}, GivenNames.{new_name, one_given}, Named.{given, new_is, past_is, some_shown}, Naming.{shown_some}}
 use Rattle.bd_records.proofs.records.Records.give_name.Goals as goal
 
 pub returns-in-Some-clause-names : goal.returns-in-Some-clause-names
@@ -16,14 +16,7 @@ pub returns-in-Ok-clause-stands : goal.returns-in-Ok-clause-stands
 returns-in-Ok-clause-stands c = λ objects l own h.
     let t = c.args.self.now.names in
     let lacks : number_of t c.args.p c.args.o ≡ None = grind (arith, c.number_of.ensures, c.in_default.not-Some) in
-    record {
-      objects_are = h.objects_are;
-      owners = h.owners;
-      own = h.own;
-      counts = counts_named (row_at c.args.self.now.objects) (name_at t) (name_at c.give.new.self) c.args.p c.args.o objects l h.counts (ap (on_slot None (value_at t.rows c.args.p)) lacks) c.in-Ok.ensures.names;
-      held = h.held;
-      few = h.few;
-    }
+    renamed c.args.self.now _ objects l h refl refl refl refl (counts_named (row_at c.args.self.now.objects) (name_at t) (name_at c.give.new.self) c.args.p c.args.o objects l h.counts (ap (on_slot None (value_at t.rows c.args.p)) lacks) c.in-Ok.ensures.names)
 
 pub returns-in-Ok-clause-names : goal.returns-in-Ok-clause-names
 returns-in-Ok-clause-names c = λ base names h.

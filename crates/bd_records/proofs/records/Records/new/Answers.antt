@@ -1,10 +1,6 @@
-use Rattle.bd_records.proofs.Words.{AreBlank, Bool, ap, arith, asked_of, carried_of, false, is_owner, managed_of, no_count, of_strength, option_map, owed_of, refl, subst, sym, total_of, true, ◌∙◌, ◌≡◌, ◌≤◌}
-use Rattle.bd_records.proofs.Coming.{object_of}
+use Rattle.bd_records.proofs.Words.{AreBlank, ap, arith, asked_of, carried_of, is_owner, managed_of, of_strength, option_map, owed_of, refl, subst, sym, total_of, ◌∙◌, ◌≤◌}
+use Rattle.bd_records.proofs.{Coming.{object_of}, Tallies.{none_of_either}}
 use Rattle.bd_records.proofs.records.Records.new.Goals as goal
-
-zero : (s : Bool) → of_strength s no_count ≡ 0
-zero true = refl
-zero false = refl
 
 pub returns-clause-stands : goal.returns-clause-stands
 returns-clause-stands c = record {
@@ -12,13 +8,13 @@ returns-clause-stands c = record {
   owners = λ p o. sym (ap (is_owner p) (c.new.ensures o));
   own = c.new-4.ensures;
   counts = record {
-    totals = λ o s. ap (λ w. of_strength s (total_of w)) (c.new.ensures o) ∙ zero s;
-    owed = λ o s. ap (λ w. of_strength s (owed_of w)) (c.new.ensures o) ∙ zero s;
-    managed = λ o s. ap (λ w. of_strength s (managed_of w)) (c.new.ensures o) ∙ zero s;
-    asked = λ p o s. ap (λ w. of_strength s (asked_of w)) (c.new-2.ensures.names p o) ∙ zero s;
+    totals = λ o s. ap (λ w. of_strength s (total_of w)) (c.new.ensures o) ∙ none_of_either s;
+    owed = λ o s. ap (λ w. of_strength s (owed_of w)) (c.new.ensures o) ∙ none_of_either s;
+    managed = λ o s. ap (λ w. of_strength s (managed_of w)) (c.new.ensures o) ∙ none_of_either s;
+    asked = λ p o s. ap (λ w. of_strength s (asked_of w)) (c.new-2.ensures.names p o) ∙ none_of_either s;
     unasked = λ p o s own. refl;
-    carried = λ p o s free. ap (λ w. of_strength s (carried_of w)) (c.new-2.ensures.names p o) ∙ zero s;
-    carried_few = λ p o s. subst (λ n. n ≤ 0) (sym (ap (λ w. of_strength s (carried_of w)) (c.new-2.ensures.names p o) ∙ zero s)) (omega arith);
+    carried = λ p o s free. ap (λ w. of_strength s (carried_of w)) (c.new-2.ensures.names p o) ∙ none_of_either s;
+    carried_few = λ p o s. subst (λ n. n ≤ 0) (sym (ap (λ w. of_strength s (carried_of w)) (c.new-2.ensures.names p o) ∙ none_of_either s)) (omega arith);
   };
   held = c.new-5.ensures;
   few = omega arith;

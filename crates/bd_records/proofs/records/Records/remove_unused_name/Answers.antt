@@ -1,5 +1,5 @@
 use Rattle.bd_records.proofs.Words.{ap, false, name_at, on_slot, refl, row_at, sym, true, value_at, ◌∙◌, ◌≡◌}
-use Rattle.bd_records.proofs.{Asked.{counts_unnamed, unnamed_counts}, Given.{settled_now}, Named.{none_taken, taken}}
+use Rattle.bd_records.proofs.{Asked.{counts_unnamed, renamed, unnamed_counts}, Given.{settled_now}, Named.{none_taken, taken}}
 use Rattle.bd_records.proofs.records.Records.remove_unused_name.Goals as goal
 
 pub remove_at-requires : goal.remove_at-requires
@@ -10,15 +10,8 @@ returns-then-not-is_given-clause-stands c = λ objects l h.
     let t = c.args.self.now in
     let is = ap (on_slot _ (value_at t.names.rows c.args.p)) c.in-Some.ensures.number ∙ c.in-Some.ensures.row in
     let none = sym (c.is_given.ensures is objects l h) ∙ c.if-not-is_given.true in
-    record {
-      objects_are = h.objects_are;
-      owners = h.owners;
-      own = h.own;
-      counts = counts_unnamed (row_at t.objects) (name_at t.names) (name_at c.remove_at.new.self) c.args.p c.args.o objects l h.counts
-          (unnamed_counts objects l c.args.p c.args.o none) c.remove_at.ensures.names;
-      held = h.held;
-      few = h.few;
-    }
+    renamed c.args.self.now _ objects l h refl refl refl refl (counts_unnamed (row_at t.objects) (name_at t.names) (name_at c.remove_at.new.self) c.args.p c.args.o objects l h.counts
+    (unnamed_counts objects l c.args.p c.args.o none) c.remove_at.ensures.names)
 
 pub returns-then-not-is_given-clause-stays : goal.returns-then-not-is_given-clause-stays
 returns-then-not-is_given-clause-stays c = λ objects l names h named s.

@@ -1,5 +1,5 @@
 use Rattle.bd_records.proofs.Words.{AreBlank, NamesAre, Since, arith, name_at, number_of, refl, row_at, subst, sym, ◌++◌}
-use Rattle.bd_records.proofs.{Asked.{counts_unnamed}, Given.{all_gone, blank_counts, blank_last, last_of}, GivenNames.{all_back, nil_of}, Named.{gone}}
+use Rattle.bd_records.proofs.{Asked.{counts_unnamed, renamed}, Given.{all_gone, blank_counts, blank_last, last_of}, GivenNames.{all_back, nil_of}, Named.{gone}}
 use Rattle.bd_records.proofs.records.Records.roll_back_names.Goals as goal
 
 pub loop-m-init : goal.loop-m-init
@@ -17,15 +17,8 @@ loop-m-preserved c = record {
       let k = c.loop-m.invariant.kept base names given_since objects l r in
       let s = c.loop-m.invariant.since base names given_since in
       let b = blank_last t.names c.pop.new.self.items m (subst (AreBlank t.names) c.in-Some.ensures.items s.blank) in
-      record {
-        objects_are = k.objects_are;
-        owners = k.owners;
-        own = k.own;
-        counts = counts_unnamed (row_at t.objects) (name_at t.names) (name_at c.remove.new.self) m.process m.object objects l k.counts
-            (blank_counts (row_at t.objects) (name_at t.names) objects l k.counts m.process m.object b.1) c.remove.ensures.names;
-        held = k.held;
-        few = k.few;
-      };
+      renamed c.loop-m.self _ objects l k refl refl refl refl (counts_unnamed (row_at t.objects) (name_at t.names) (name_at c.remove.new.self) m.process m.object objects l k.counts
+      (blank_counts (row_at t.objects) (name_at t.names) objects l k.counts m.process m.object b.1) c.remove.ensures.names);
   since = λ base names given_since.
       let t = c.loop-m.self in
       let m = c.in-Some.m in
@@ -47,7 +40,7 @@ loop-m-preserved c = record {
 pub returns-clause-stands : goal.returns-clause-stands
 returns-clause-stands c = λ base names h objects l r.
     let k = c.loop-m.invariant.kept base names h objects l r in
-    record { objects_are = k.objects_are; owners = k.owners; own = k.own; counts = k.counts; held = k.held; few = k.few }
+    renamed c.loop-m.self _ objects l k refl refl refl refl (k.counts)
 
 pub returns-clause-names : goal.returns-clause-names
 returns-clause-names c = λ base names h.
