@@ -1,15 +1,10 @@
 -- The windows of all live processes through each change.
 use Rattle.bd_buffers.proofs.Words.{All, All-filter, All-map, All-weaker, AllPairs-filter, AreHomes, AreInOrder, AreMade, Bool, Bor, Buffer, CanAdd, CanHold, Cause, Err, IfOk, IfSome, List, MatchOption, None, Ok, Option, OwnedWindow, Process, ProcessWindow, Result, Some, Stands, StandsAt, Window, Windows}
 use Rattle.bd_buffers.proofs.Words.{WindowsOf, any_some, ap, arith, buffer_in, buffers_held, buffers_of, changed, changed_at, changed_none, distinct, eq-eqb, eqb-true, false, filter, find, find_at, found_passes, get_or, get_or-map, get_or-set_same, get_or_default, hand_out, handed_buffers, home_key, is_made_at}
-use Rattle.bd_buffers.proofs.Words.{is_of, is_owned_by, is_some, length, length-map, length-set, lives_in, look, ltb, ltb-false, ltb-true, made_of_buffer, map, map-set, map-set_same, map_push, not, option_copied, option_map, process_in, refl, seen, set, slice_get, slice_get_past, slice_get_read, subst, sym, true}
+use Rattle.bd_buffers.proofs.Words.{is_of, is_owned_by, is_some, length, length-map, length-set, lives_in, look, made_of_buffer, map, map-set, map-set_same, map_push, not, option_copied, option_map, process_in, refl, seen, set, subst, sym, true}
 use Rattle.bd_buffers.proofs.Words.{window_of, with_buffers, ℕ, [], ◌++◌, ◌+◌, ◌<◌, ◌==◌, ◌∙◌, ◌∷◌, ◌≡◌, ◌≢◌}
 use Rattle.bd_buffers.proofs.{InSpace.{added, added_elsewhere, buffer_made, found_kept, home_finds, not_yet, others_stay, process_gone, process_made}, Made.{kept_some, none_left, same_keys}, Standing.{all_of, filtered_of, found_of}}
 use Rattle.std.proofs.Math.ListN as list
-
--- ---- where one stands, by whose it is
-
-pub look_copied : {A : Type 0} (o : Option (Bor A)) (xs : List A) (i : ℕ) → is_some o ≡ ltb i (length xs) → IfSome o (λ x. x.now ≡ get_or xs i x.now) → option_copied o ≡ slice_get xs i
-look_copied o xs i e at = grind (arith, slice_get_past, ltb-false, slice_get_read, ltb-true)
 
 -- ---- they stay in order
 
@@ -162,12 +157,15 @@ buffer_added t u bound ps bs b w e found is homes stands =
     lives_as : (o : Option Process) → Some (seen w) ≡ option_map (window_of bs) o → is_some o ≡ true
     lives_as o e = grind arith
 
+-- each window is that of its owner
+pub stands_there : (ws : List OwnedWindow) (i : ℕ) (w : OwnedWindow) → AreInOrder ws → i < length ws → w ≡ get_or ws i w → find (is_owned_by w.owner) ws ≡ Some w
+stands_there ws i w order within at = found_at ws w.owner i w order (within, λ d. ap (λ (x : OwnedWindow). x.owner) (get_or_default ws i d w within ∙ sym at)) at
+
 -- a buffer that is found in some window is the one that was made there
 pub guessed : (t : Windows) (bound i made : ℕ) (ps : List Process) (bs : List Buffer) (w : OwnedWindow) (b : Buffer) → WindowsOf t bound ps bs → AreInOrder t.windows → i < length t.windows
     → w ≡ get_or t.windows i w → Some b ≡ buffer_in w.window.buffers made → Some b ≡ buffer_in bs made
 guessed t bound i made ps bs w b stands order within at found =
-    let there = found_at t.windows w.owner i w order (within, λ d. ap (λ (x : OwnedWindow). x.owner) (get_or_default t.windows i d w within ∙ sym at)) at in
-    let mine = ap buffers_held (sym there) ∙ held t bound w.owner ps bs stands in
+    let mine = ap buffers_held (sym (stands_there t.windows i w order within at)) ∙ held t bound w.owner ps bs stands in
     sym (kept_some (λ (x : Buffer). x.receiver == w.owner) (buffer_in bs made) b (sym (found ∙ ap (λ xs. buffer_in xs made) mine ∙ found_kept (λ x. x.receiver == w.owner) bs made stands.made.buffers_in_order))).0
 
 -- what was made there lies in the window of the process whose home it is

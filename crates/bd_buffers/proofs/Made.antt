@@ -1,6 +1,6 @@
 -- Lists with some elements changed or left out, where a search by a key that rises ends, and what is found where elements come or go.
 use Rattle.bd_buffers.proofs.Words.{All, All-cons, All-head, All-tail, AllPairs, Bool, Distinct, Err, IsBinarySearchResult, IsNonDecreasingBy, IsPartitionPoint, IsPartitionedBy, IsPartitionedBy-ltb, IsSearchInRange, IsWithout, List, MatchOption, Ok, OnErr, OnOk, Option, Result, Rising, Some, ap, arith, changed}
-use Rattle.bd_buffers.proofs.Words.{cond, distinct, eqb-true, false, filter, filter_none, find, find_at, find_none, get_or, get_or-map, kept, length, length-map, ltb, ltb-false, ltb-true, map, nat_cmp, not, pairs_head, pairs_tail, refl, rest_differ, result_ok, slice_get, slice_get-get_or, suc, sym, true, ℕ, []}
+use Rattle.bd_buffers.proofs.Words.{cond, distinct, eqb-true, false, filter, filter_none, find, find_none, get_or, get_or-map, kept, length, length-map, ltb, ltb-false, ltb-true, map, nat_cmp, not, pairs_head, pairs_tail, refl, rest_differ, result_ok, suc, sym, true, ℕ, []}
 use Rattle.bd_buffers.proofs.Words.{◌<◌, ◌==◌, ◌∙◌, ◌∷◌, ◌≡◌, ◌≤◌}
 use Rattle.bd_keys.proofs.Rising.{searched as by_halves}
 
@@ -73,10 +73,6 @@ same_keys key other (x ∷ xs) ys e rising i j d lt h =
     omega (arith, at i (omega (arith, lt, h)), at j h, rising i j x lt (omega (arith, len, h)))
 
 module _ {A : Type 0} (key : A → ℕ) where
-  pub look_found : (m : ℕ) (xs : List A) (i : ℕ) → Rising key xs → i < length xs → ((d : A) → key (get_or xs i d) ≡ m) → slice_get xs i ≡ find (λ x. key x == m) xs
-  look_found m [] i rising lt at = absurd (omega arith)
-  look_found m (x ∷ xs) i rising lt at = slice_get-get_or (x ∷ xs) i x lt ∙ sym (find_at key m (x ∷ xs) i x (distinct key (x ∷ xs) rising) lt at)
-
   -- where the one with a key goes, it is missing
   pub gone_at : (m : ℕ) (xs : List A) (x : A) → Rising key xs → find (λ y. key y == m) xs ≡ Some x → IsWithout x xs (filter (λ y. not (key y == m)) xs)
   gone_at m [] x rising e = cc

@@ -1,6 +1,6 @@
 //! Windows by whose they are.
 
-ghost use Rattle.std.specs.{Prelude.{◌≡◌, ◌<◌, ◌↔◌, not, All, IsTrue, map, filter, find}, Option.{option_copied}};
+ghost use Rattle.std.specs.{Prelude.{◌≡◌, not, map, filter, find}, Option.{option_copied}};
 ghost use Rattle.bd_space.specs.{Words.{changed}, Freeing.{is_made_at}, ReadItems.{hand_out}};
 ghost use Rattle.bd_buffers.specs.{Homes.{Forgets}, Owners.{AreInOrder, StandsAt}, WindowsStand.{buffers_held, made_of_buffer, is_of, is_owned_by, seen, with_buffers}};
 
@@ -35,18 +35,7 @@ pub(crate) fn owned_by(windows: &[OwnedWindow], p: u64, guess: u32) -> Option<&O
 {
     match position_of(windows, p, guess) {
         None => None,
-        Some(i) => windows.get(i),
-    }
-}
-
-/// Whether the window of this process would come after all.
-pub(crate) fn is_last(windows: &[OwnedWindow], owner: u64) -> bool
-    requires order { AreInOrder windows.now }
-    ensures { IsTrue result ↔ All (λ w. w.owner < owner) windows.now }
-{
-    match windows.last() {
-        None => true,
-        Some(w) => w.owner < owner,
+        Some(i) => Some(&windows[i]),
     }
 }
 

@@ -1,17 +1,17 @@
 //! The windows of all live processes.
 
-ghost use Rattle.std.specs.{Prelude.{◌≡◌, ◌≤◌, ◌++◌, ℕ, Bool, false, find, IfOk, IfSome, MatchOption, OnOk, OnErr, Some, None, Err, length, List, [], map, option_map}, Option.{option_copied}};
+ghost use Rattle.std.specs.{Prelude.{◌≡◌, ◌<◌, ◌≤◌, ◌++◌, ℕ, All, Bool, IsTrue, true, false, find, IfOk, IfSome, MatchOption, OnOk, OnErr, Some, None, Err, length, List, [], map, option_map, slice_index_or}, Option.{option_copied}};
 ghost use Rattle.bd_uapi.specs.declared.fault.Cause.TheVariants.{NoRoom};
 ghost use Rattle.bd_space.specs.{declared.space.Process.{Process}, declared.space.Work.{Work}, Space.{Space, opening}, Seats.{process_in}, Windows.{needed, start_for, buffers_of}, Delivery.{add_buffer}, Freeing.{without_buffer, buffer_at_pointer}};
 ghost use Rattle.bd_space.specs.{Returns.{buffer_in}, Spam.{floods}, ReadItems.{buffer_taken, read_by}, Steps.{with_process}, ProcessExits.{without_process}};
 ghost use Rattle.bd_ways.specs.Tables.{Tells, Makes};
-ghost use Rattle.bd_buffers.specs.WindowsStand.{StandsFor, StandsIn, Stands, window_room, HasBufferRoom, made_of_buffer, next_made, is_owned_by, CanAdd, IsInWindow};
+ghost use Rattle.bd_buffers.specs.{declared.owned.OwnedWindow.{OwnedWindow}, WindowsStand.{StandsFor, StandsIn, Stands, window_room, HasBufferRoom, made_of_buffer, next_made, is_owned_by, CanAdd, IsInWindow}};
 
 use crate::home::home_key;
 use crate::lent::Lent;
 use crate::listing::{list_made, next_from};
 use crate::owned::{
-    OwnedWindow, close_among, forget_in, free_in, hand_out_in, is_last, owned_by, position_of,
+    OwnedWindow, close_among, forget_in, free_in, hand_out_in, owned_by, position_of,
 };
 use crate::window::Window;
 use bd_keys::WordMap;
@@ -75,6 +75,17 @@ impl Windows {
         self.windows.reserve(1)
     }
 
+    // Whether a process that the step at this place opens is newer than all that live. Each step's is.
+    fn is_next(&self, place: u64) -> bool
+        ensures last { IsTrue result → All (λ w. w.owner < place) self.now.windows }
+        ensures always { (s : Space) → StandsFor self.now s → s.steps ≡ place → result ≡ true }
+    {
+        match self.windows.last() {
+            None => true,
+            Some(w) => w.owner < place,
+        }
+    }
+
     /// Takes in the empty window of the process that the step at this place opens. Takes no memory.
     #[tactic(auto, unfolding(crate::specs::WindowsStand::window_room))]
     pub fn open(&mut self, place: u64, window: Window)
@@ -82,8 +93,7 @@ impl Windows {
         ensures { (s : Space) (pid euid size : ℕ) → StandsFor self.old s → s.steps ≡ place → Stands window size []
             → StandsIn self.new (with_process s pid euid size) }
     {
-        // Each step's process is newer than all that live.
-        if is_last(&self.windows, place) {
+        if self.is_next(place) {
             self.owners.note(place, self.windows.len());
             self.windows.push_reserved(OwnedWindow {
                 owner: place,
@@ -157,6 +167,16 @@ impl Windows {
         }
     }
 
+    // Whether a buffer that the step at this place makes is newer than all in this window. Each step's is.
+    fn is_next_in(&self, at: usize, place: u64) -> bool
+        requires { at < length self.now.windows }
+        ensures newest { IsTrue result → (d : OwnedWindow)
+            → All (λ b. b.made < place) (slice_index_or self.now.windows at d).window.buffers }
+        ensures always { (s : Space) → StandsFor self.now s → s.steps ≡ place → result ≡ true }
+    {
+        self.windows[at].window.is_newest(place)
+    }
+
     /// Takes a buffer into its receiver's window, at a place that it can take it at. Takes no memory.
     #[tactic(auto, unfolding(crate::specs::WindowsStand::HasBufferRoom))]
     #[inline(always)]
@@ -173,13 +193,11 @@ impl Windows {
             Some(at) => at,
             None => unreachable!(),
         };
-        self.owners.note(receiver, at);
-        self.places.note(made, at);
-        let window = &mut self.windows[at].window;
-        // Each step's buffer is newer than all that are live.
-        if window.is_newest(made) {
+        if self.is_next_in(at, made) {
+            self.owners.note(receiver, at);
+            self.places.note(made, at);
             self.homes.insert(home_key(made), receiver);
-            window.commit(buffer);
+            self.windows[at].window.commit(buffer);
         }
     }
 

@@ -1,5 +1,5 @@
 use Rattle.bd_buffers.proofs.Words.{Buffer, CanAdd, CanHold, HasBufferRoom, List, None, OwnedWindow, Some, add_buffer, find_none, is_of, refl, seen, sym, [], ◌++◌, ◌∷◌}
-use Rattle.bd_buffers.proofs.{AllWindows.{buffer_added, found_at, older, one_made}, InSpace.{homes_noted}, Standing.{found_of}}
+use Rattle.bd_buffers.proofs.{AllWindows.{buffer_added, found_at, one_made}, InSpace.{homes_noted}, Standing.{found_of}}
 use Rattle.bd_buffers.proofs.windows.Windows.add.Goals as goal
 
 pub commit-requires-clause-room : goal.commit-requires-clause-room
@@ -14,9 +14,9 @@ commit-requires-clause-can_take c =
     let found = found_at c.self.inside.windows.items _ c.in-Some.at _ c.self.invariant (rw (c.receiver-receiver.ensures, c.deref.ensures.value) at c.in-Some.ensures) c.index_mut.ensures.value in
     rw (← c.self.view_is, found_of seen (is_of c.args.buffer.receiver), found) at c.requires.can_add
 
-pub returns-then-is_newest : goal.returns-then-is_newest
+pub returns-then-is_next_in : goal.returns-then-is_next_in
 unfolding add_buffer
-returns-then-is_newest c = λ s stands e.
+returns-then-is_next_in c = λ s stands e.
     let t = c.args.self.now in let w = c.index_mut.result.now in
     let f : List Buffer → List Buffer = λ xs. xs ++ c.args.buffer ∷ [] in
     let here = rw (c.receiver-receiver.ensures, c.deref.ensures.value) at c.in-Some.ensures in
@@ -27,12 +27,8 @@ returns-then-is_newest c = λ s stands e.
     let found = found_at c.self.inside.windows.items _ c.in-Some.at w c.self.invariant here c.index_mut.ensures.value in
     buffer_added t _ s.steps s.processes s.buffers c.args.buffer w (sym e) (rw (← c.self.view_is) found) (rw (← c.self.view_is) grown) homes stands
 
-pub returns-else-is_newest : goal.returns-else-is_newest
-returns-else-is_newest c = λ s stands e.
-    let found = found_at c.self.inside.windows.items c.args.buffer.receiver c.in-Some.at c.index_mut.result.now c.self.invariant (rw (c.receiver-receiver.ensures, c.deref.ensures.value) at c.in-Some.ensures) c.index_mut.ensures.value in
-    let all = older c.args.self.now s.steps c.args.buffer.receiver s.processes s.buffers c.index_mut.result.now stands (rw (← c.self.view_is) found) in
-    let newest = c.is_newest.ensures.1 (rw (c.made-made.ensures, ← e) all) in
-    cc
+pub returns-else-is_next_in : goal.returns-else-is_next_in
+returns-else-is_next_in c = λ s stands e. let always = c.is_next_in.ensures.always s stands (rw c.made-made.ensures e) in cc
 
 pub unreachable-requires : goal.unreachable-requires
 unfolding CanAdd
