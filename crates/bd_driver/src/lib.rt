@@ -17,8 +17,6 @@ mod seat;
 mod serving;
 mod slot;
 mod states;
-#[cfg(test)]
-mod tests;
 mod view;
 
 pub use bd_engine::Span;
