@@ -122,26 +122,26 @@ fn plain(text: &str) -> String {
     lines
 }
 
-#[test]
-#[ignore = "needs a player"]
-fn entries_have_the_lines_that_were_written_for_them() {
-    let runs = runs("lines");
-    let blocks = blocks("entries.txt");
-    assert!(blocks.len() > 8, "{} blocks", blocks.len());
+/// Compares what each block's words print, over the run that it names, with its lines. There are more than `least` blocks.
+fn each_block(made: &str, file: &str, least: usize, compare: impl Fn(&[&str], &str)) {
+    let runs = runs(made);
+    let blocks = blocks(file);
+    assert!(blocks.len() > least, "{} blocks", blocks.len());
     for (name, words, lines) in blocks {
-        assert_eq!(plain(&chosen(&words_over(&words, &runs[&name]))), lines, "{name}: {words}");
+        compare(&words_over(&words, &runs[&name]), &lines);
     }
 }
 
 #[test]
 #[ignore = "needs a player"]
+fn entries_have_the_lines_that_were_written_for_them() {
+    each_block("lines", "entries.txt", 8, |words, lines| assert_eq!(plain(&chosen(words)), lines, "{words:?}"));
+}
+
+#[test]
+#[ignore = "needs a player"]
 fn entries_and_states_have_the_values_that_were_written_for_them() {
-    let runs = runs("values");
-    let blocks = blocks("json.txt");
-    assert!(blocks.len() > 20, "{} blocks", blocks.len());
-    for (name, words, lines) in blocks {
-        compare(&words_over(&words, &runs[&name]), &values(&lines));
-    }
+    each_block("values", "json.txt", 20, |words, lines| compare(words, &values(lines)));
 }
 
 /// A script that is played here, by its name.
