@@ -1,13 +1,5 @@
 -- Steps that are accepted, and steps that get a note.
-use Rattle.std.proofs.Common.{◌≡◌, Result, Ok, Err, sym, ap, subst, ◌∙◌}
-use Rattle.bd_uapi.specs.declared.fault.Note.{Note}
-use Rattle.bd_space.specs.declared.step.StepAnswer.TheVariants.{Accepted, Noted}
-use Rattle.bd_space.specs.Space.{Space}
-use Rattle.bd_space.specs.Outcomes.{Outcome, completed, accepted, noted, by_check}
-use Rattle.bd_step.specs.declared.tables.Tables.{Tables}
-use Rattle.bd_step.specs.Stands.{Before, Within}
-use Rattle.bd_step.specs.Meets.{Meets, IsKept}
-use Rattle.bd_step.proofs.Standing.{within}
+use Rattle.bd_step.proofs.{Words.{Accepted, Before, Err, IsKept, Meets, Note, Noted, Ok, Outcome, Result, Space, Tables, Within, accepted, ap, by_check, completed, noted, subst, sym, ◌∙◌, ◌≡◌}, Standing.{within}}
 
 -- room was made, and then the change was made with what follows from it, which may rest on what is so of the space before and on
 -- what the step asks of it

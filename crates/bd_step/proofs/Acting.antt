@@ -1,12 +1,5 @@
 -- Who makes a step.
-use Rattle.std.proofs.Common.{ℕ, ◌≡◌, List, Option, Some, None, refl, sym, ◌∙◌}
-use Rattle.bd_space.specs.declared.space.Process.{Process}
-use Rattle.bd_space.specs.declared.space.Thread.{Thread}
-use Rattle.bd_space.specs.declared.space.Actor.{Actor}
-use Rattle.bd_space.specs.Space.{Space}
-use Rattle.std.specs.Prelude.{option_and_then, option_map}
-use Rattle.bd_space.specs.Seats.{process_in, thread_in, actor_of, actor}
-use Rattle.bd_step.proofs.Finding.{found_lives}
+use Rattle.bd_step.proofs.{Words.{Actor, List, None, Option, Process, Some, Space, Thread, actor, actor_of, option_and_then, option_map, process_in, refl, sym, thread_in, ℕ, ◌∙◌, ◌≡◌}, Finding.{found_lives}}
 
 -- the actor of a thread has the process that is found
 abbrev actor_with : Thread → Option Process → Option Actor

@@ -1,42 +1,8 @@
 -- What follows from a transaction and from a reply: a look at the objects of the parcel does it all, but for a call that ripens
 -- and those that close.
-use Rattle.std.proofs.Common.{◌≡◌, ℕ, Bool, true, false, Option, Some, None, length, refl, ap, sym, ◌∙◌}
-use Rattle.std.specs.Prelude.{if◌then◌else◌}
-use Rattle.bd_uapi.specs.declared.command.TransactionData.{TransactionData}
-use Rattle.bd_space.specs.declared.step.Identity.{Identity}
-use Rattle.bd_space.specs.declared.space.Frame.{Frame}
-use Rattle.bd_space.specs.declared.space.Actor.{Actor}
-use Rattle.bd_space.specs.Space.{Space}
-use Rattle.bd_space.specs.Delivery.{Delivery, delivered}
-use Rattle.bd_space.specs.Frames.{closed}
-use Rattle.bd_space.specs.Outcomes.{completed}
-use Rattle.bd_space.specs.Transactions.{transacted}
-use Rattle.bd_space.specs.Replies.{replied}
-use Rattle.bd_ways.specs.Local.{follow_of, ripen_of, close_up, no_name, objects_of_items}
-use Rattle.bd_laws.specs.Lists.{In, Pairs}
-use Rattle.bd_laws.specs.Objects.{Earlier}
-use Rattle.bd_laws.specs.Tidy.{IsTidy}
-use Rattle.bd_laws.specs.Quiet.{IsFollowed}
-use Rattle.bd_laws.proofs.Objects.{transacted_kept, replied_kept}
-use Rattle.bd_laws.proofs.KeptBefore.ObjectsKept.{delivered_kept, closed_before, closed_sends}
-use Rattle.bd_laws.proofs.Sendings.{sending_sends}
-use Rattle.bd_laws.proofs.FollowingIsLocal.Sent.{Delivers, delivered_elsewhere}
-use Rattle.bd_laws.proofs.Checks.{transaction_checked, reply_checked}
-use Rattle.bd_laws.proofs.Next.{calm}
-use Rattle.bd_laws.proofs.Framing.{one_each}
-use Rattle.bd_laws.proofs.Abandoned.{OneEach}
-use Rattle.bd_laws.proofs.Stacks.{replied_childless}
-use Rattle.bd_laws.proofs.Pings.{transaction_delivers, sending_made_sent}
-use Rattle.bd_laws.proofs.Sending.{one_way_local, two_way_local}
-use Rattle.bd_laws.proofs.Replying.{reply_local}
-use Rattle.bd_step.specs.Meets.{IsSending, IsServing, IsReplying}
-use Rattle.bd_step.specs.Deliveries.{CanSend, CanCall}
-use Rattle.bd_step.specs.Freed.{ripen_next}
-use Rattle.bd_step.specs.Known.{are_known_before}
-use Rattle.bd_step.proofs.Known.{known_elsewhere, transacted_elsewhere, replied_elsewhere, looked_at_less}
-use Rattle.bd_step.proofs.New.{can_send}
-use Rattle.bd_step.proofs.Finding.{found_lives}
-use Rattle.bd_step.proofs.Stacked.{tidy_takes}
+use Rattle.bd_step.proofs.Words.{Actor, Bool, CanCall, CanSend, Delivers, Delivery, Earlier, Frame, Identity, In, IsFollowed, IsReplying, IsSending, IsServing, IsTidy, None, OneEach, Option, Pairs, Some, Space, TransactionData, ap, are_known_before, calm, close_up, closed, closed_before, closed_sends, completed, delivered, delivered_elsewhere, delivered_kept, false, follow_of, if◌then◌else◌, length}
+use Rattle.bd_step.proofs.{Words.{no_name, objects_of_items, one_each, one_way_local, refl, replied, replied_childless, replied_kept, reply_checked, reply_local, ripen_next, ripen_of, sending_made_sent, sending_sends, sym, transacted, transacted_kept, transaction_checked, transaction_delivers, true, two_way_local, ℕ, ◌∙◌, ◌≡◌}, Finding.{found_lives}}
+use Rattle.bd_step.proofs.{Known.{known_elsewhere, transacted_elsewhere, replied_elsewhere, looked_at_less}, New.{can_send}, Stacked.{tidy_takes}}
 
 pub ripened_ordered : (target : Option Identity) (s : Space) → Pairs Earlier s.objects → Pairs Earlier (ripen_next target s).objects
 unfolding ripen_of

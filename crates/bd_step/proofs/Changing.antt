@@ -1,20 +1,7 @@
 -- Tables of which one was changed go on standing.
-use Rattle.std.proofs.Common.{ℕ, List}
-use Rattle.bd_space.specs.declared.space.Object.{Object}
-use Rattle.bd_space.specs.declared.space.Reference.{Reference}
-use Rattle.bd_space.specs.declared.space.Name.{Name}
-use Rattle.bd_space.specs.declared.space.DeathNotification.{DeathNotification}
-use Rattle.bd_space.specs.declared.space.Thread.{Thread}
-use Rattle.bd_space.specs.declared.space.Frame.{Frame}
-use Rattle.bd_space.specs.declared.space.Work.{Work}
-use Rattle.bd_space.specs.Space.{Space}
-use Rattle.bd_space.specs.Turns.{turns_of}
-use Rattle.bd_objects.specs.declared.table.ObjectTable.{ObjectTable}
-use Rattle.bd_objects.specs.Stands as objects
-use Rattle.bd_calls.specs.declared.table.CallTable.{CallTable}
+use Rattle.bd_step.proofs.Words.{CallTable, DeathNotification, Frame, List, Name, Object, ObjectTable, Reference, Space, StandsAt, Tables, Thread, Work, turns_of, ℕ}
 use Rattle.bd_calls.specs.Stands as calls
-use Rattle.bd_step.specs.declared.tables.Tables.{Tables}
-use Rattle.bd_step.specs.Stands.{StandsAt}
+use Rattle.bd_objects.specs.Stands as objects
 
 pub with_objects : (n : ℕ) (t : Tables) (s : Space) (table : ObjectTable) (os : List Object) (rs : List Reference) (ns : List Name) (ds : List DeathNotification)
     → StandsAt n t s → objects.Stands table os rs ns ds

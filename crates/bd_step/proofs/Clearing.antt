@@ -1,15 +1,5 @@
 -- A death notification that is to be cleared is there.
-use Rattle.std.proofs.Common.{◌≡◌, ◌==◌, ℕ, not, Ok, subst}
-use Rattle.bd_space.specs.declared.space.DeathNotification.{DeathNotification}
-use Rattle.bd_space.specs.declared.step.Identity.{Identity}
-use Rattle.bd_uapi.specs.declared.fault.Note.TheVariants.{NoSuchNumber, NoneAsked}
-use Rattle.bd_space.specs.Words.{ok_or, unless, when, and_then}
-use Rattle.bd_space.specs.Space.{Space}
-use Rattle.bd_space.specs.Names.{named}
-use Rattle.bd_space.specs.Deaths.{is_uncleared_on, uncleared_in, clear_check}
-use Rattle.bd_laws.specs.Lists.{In}
-use Rattle.bd_laws.proofs.Lists.{find_in}
-use Rattle.bd_laws.proofs.Tests.{and_then_ok, found_ok, unless_ok}
+use Rattle.bd_step.proofs.Words.{DeathNotification, Identity, In, NoSuchNumber, NoneAsked, Ok, Space, and_then, and_then_ok, clear_check, find_in, found_ok, is_uncleared_on, named, not, ok_or, subst, uncleared_in, unless, unless_ok, when, ℕ, ◌==◌, ◌≡◌}
 
 pub cleared_there : (s : Space) (p n cookie : ℕ) (x : DeathNotification) → clear_check s p n cookie ≡ Ok x → In x s.deaths
 unfolding clear_check

@@ -1,36 +1,7 @@
 -- How tables go on standing through the parts of a delivery.
-use Rattle.std.proofs.Common.{◌≡◌, ℕ, refl, true, ◌+◌, ◌<◌, ◌≤◌, ◌&&◌, not, Bool, cond, List, All, ◌++◌, Option, take, drop, length, get_or, ap, sym, subst, ◌∙◌, arith, filter, map}
-use Rattle.std.specs.Prelude.{Some, None, IfSome}
-use Rattle.std.proofs.lemmas.List.{take_all}
-use Rattle.std.specs.List.{fold}
-use Rattle.bd_uapi.specs.declared.command.TransactionData.{TransactionData}
-use Rattle.bd_space.specs.declared.space.Buffer.{Buffer}
-use Rattle.bd_space.specs.declared.space.Actor.{Actor}
-use Rattle.bd_space.specs.Windows.{needed}
-use Rattle.bd_step.specs.Deliveries.{OnlyWorks, IsInside, IsCopy, CanSend}
-use Rattle.std.proofs.lemmas.List.Sums.{fold_more}
-use Rattle.bd_uapi.specs.declared.object.FlatObject.{FlatObject}
-use Rattle.bd_uapi.specs.Records.{object_bytes}
-use Rattle.bd_space.specs.declared.step.Identity.{Identity}
-use Rattle.bd_space.specs.declared.space.Object.{Object}
-use Rattle.bd_space.specs.declared.space.Item.{Item}
-use Rattle.bd_space.specs.declared.space.Work.{Work}
-use Rattle.bd_space.specs.Words.{is_some_and, overwritten}
-use Rattle.bd_space.specs.Space.{Space}
-use Rattle.bd_space.specs.References.{object_in}
-use Rattle.bd_space.specs.Names.{assign_numbers, names_go, has_number_past_limit}
-use Rattle.bd_uapi.specs.Kinds.{is_own, is_strong_kind}
-use Rattle.bd_space.specs.Parcels.{object_of_item, translated, translation}
-use Rattle.bd_space.specs.Todo.{is_notice}
-use Rattle.bd_space.specs.Notices.{with_notice}
-use Rattle.bd_space.specs.declared.space.TodoList.TheVariants.{OfThread}
-use Rattle.bd_space.specs.Delivery.{Delivery, make_objects, refer, with_carried, withdraw_notice, add_notice, buffer_of, add_buffer, own_notices}
-use Rattle.bd_objects.specs.declared.table.ObjectTable.{ObjectTable}
+use Rattle.bd_step.proofs.Words.{Actor, All, Before, Bool, Buffer, CanSend, Delivery, FlatObject, Identity, IfSome, IsCopy, IsDelivered, IsInside, Item, List, None, Object, ObjectTable, OfThread, OnlyWorks, Option, Some, Space, StandsAt, Tables, TransactionData, Work, add_buffer, add_notice, ap, arith, assign_numbers, buffer_of, cond, drop, filter, fold, fold_more, get_or, has_number_past_limit}
+use Rattle.bd_step.proofs.{Words.{is_notice, is_own, is_some_and, is_strong_kind, length, make_objects, map, names_go, needed, not, object_bytes, object_in, object_of_item, overwritten, own_notices, refer, refl, subst, sym, take, take_all, translated, translation, true, with_carried, with_notice, withdraw_notice, ℕ, ◌&&◌, ◌++◌, ◌+◌, ◌<◌, ◌∙◌, ◌≡◌, ◌≤◌}, Changing.{with_objects}}
 use Rattle.bd_objects.specs.Stands as objects
-use Rattle.bd_objects.specs.New.{IsDelivered}
-use Rattle.bd_step.specs.declared.tables.Tables.{Tables}
-use Rattle.bd_step.specs.Stands.{StandsAt, Before}
-use Rattle.bd_step.proofs.Changing.{with_objects}
 
 -- ---- notices
 

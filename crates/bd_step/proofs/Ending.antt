@@ -1,42 +1,9 @@
 -- Which buffers end by a step: where they are to be looked for.
-use Rattle.std.proofs.Common.{◌≡◌, ℕ, ◌==◌, ◌<◌, Bool, true, false, cond, not, List, [], ◌∷◌, map, filter, Option, Some, None, inl, inr, refl, ap, sym, subst, ◌∙◌, arith}
-use Rattle.std.specs.Prelude.{Result, Ok, Err, OnOk, OnErr, is_none, is_some, ◌&&◌}
-use Rattle.std.proofs.lemmas.Bool.{eqb-true, eq-eqb}
-use Rattle.bd_uapi.specs.declared.fault.Note.TheVariants.{NotHandedOut}
-use Rattle.bd_uapi.specs.declared.command.Command.{Command}
-use Rattle.bd_uapi.specs.declared.command.Command.TheVariants as bc
-use Rattle.bd_space.specs.declared.step.Step.{Step}
+use Rattle.bd_step.proofs.Words.{Actor, AtHome, Bool, Buffer, Command, Err, HasEndings, In, List, None, NotHandedOut, OfThread, Ok, OnErr, OnOk, Option, Outcome, Pairs, Parcel, Result, Some, Space, Step, Thread, Work, [], accepted, actor, actor_acts, any_found, ap, arith, both, buffer_at_pointer, buffer_in, buffers_of, by_actor, change, command_step, cond, eq-eqb, eqb-true, exit_process_step}
+use Rattle.bd_step.proofs.Words.{exit_thread_step, false, filter, filter_in, find_in, find_some, fold_keeps, follow, free_outcome, free_step, hands_out, in_filter, in_map, inl, inr, is_gone, is_lost_with, is_made_at, is_none, is_on, is_some, is_some_and, made_of_buffer, map, not, not_false, noted, on_thread, one_thread, pointer, refl, seat_of, settle, some_eq, subst, sym, tell_deaths}
+use Rattle.bd_step.proofs.{Words.{tell_deaths_untouched, thread_goes, threads_go, to_false, true, without_buffer, without_process, ℕ, ◌&&◌, ◌<◌, ◌==◌, ◌∙◌, ◌∷◌, ◌≡◌}, Living.{AllLive, can_end, same_live, change_leaves_all, settled_buffers, followed_buffers, completed_buffers}}
 use Rattle.bd_space.specs.declared.step.Step.TheVariants as step_of
-use Rattle.bd_space.specs.declared.step.Parcel.{Parcel}
-use Rattle.bd_space.specs.declared.space.Actor.{Actor}
-use Rattle.bd_space.specs.declared.space.Buffer.{Buffer}
-use Rattle.bd_space.specs.declared.space.Thread.{Thread}
-use Rattle.bd_space.specs.declared.space.Work.{Work}
-use Rattle.bd_space.specs.declared.space.TodoList.TheVariants.{OfThread}
-use Rattle.bd_space.specs.Words.{is_some_and}
-use Rattle.bd_space.specs.Space.{Space}
-use Rattle.bd_space.specs.Seats.{actor}
-use Rattle.bd_space.specs.Windows.{buffers_of}
-use Rattle.bd_space.specs.Returns.{buffer_in}
-use Rattle.bd_space.specs.Todo.{is_on, hands_out}
-use Rattle.bd_space.specs.Notices.{follow}
-use Rattle.bd_space.specs.Settle.{settle}
-use Rattle.bd_space.specs.Outcomes.{Outcome, accepted, noted}
-use Rattle.bd_space.specs.Freeing.{free_step, free_outcome, pointer, buffer_at_pointer, without_buffer, is_made_at}
-use Rattle.bd_space.specs.ThreadExits.{thread_goes, is_lost_with, exit_thread_step}
-use Rattle.bd_space.specs.ProcessExits.{threads_go, without_process, tell_deaths, exit_process_step, seat_of}
-use Rattle.bd_space.specs.Steps.{command_step, change, by_actor}
-use Rattle.bd_buffers.specs.WindowsStand.{made_of_buffer}
-use Rattle.bd_laws.specs.Lists.{In, Pairs}
-use Rattle.bd_laws.specs.Items.{AtHome}
-use Rattle.bd_laws.proofs.Lists.{in_filter, filter_in, in_map, any_found, find_in, find_some, fold_keeps}
-use Rattle.bd_laws.proofs.Tests.{both, not_false, some_eq, to_false}
-use Rattle.bd_laws.proofs.Checks.{actor_acts}
-use Rattle.bd_laws.proofs.AtHome.HomesSent.{one_thread}
-use Rattle.bd_laws.proofs.FollowingIsLocal.Left.{on_thread}
-use Rattle.bd_laws.proofs.Machine.Untouched.{tell_deaths_untouched}
-use Rattle.bd_step.specs.Ending.{is_gone, HasEndings}
-use Rattle.bd_step.proofs.Living.{AllLive, can_end, same_live, change_leaves_all, settled_buffers, followed_buffers, completed_buffers}
+use Rattle.bd_uapi.specs.declared.command.Command.TheVariants as bc
 
 -- ---- what is gone
 

@@ -1,33 +1,6 @@
 -- What follows from an exit, where all that it touches was gathered.
-use Rattle.std.proofs.Common.{◌≡◌, ℕ, ◌==◌, true, List, length, ap, sym, subst, ◌∙◌}
-use Rattle.std.proofs.lemmas.Bool.{eq-eqb}
-use Rattle.bd_space.specs.declared.step.Identity.{Identity}
-use Rattle.bd_space.specs.declared.space.Frame.{Frame}
-use Rattle.bd_space.specs.declared.space.Actor.{Actor}
-use Rattle.bd_space.specs.Words.{same}
-use Rattle.bd_space.specs.Space.{Space}
-use Rattle.bd_space.specs.Notices.{follow}
-use Rattle.bd_space.specs.Settle.{settle}
-use Rattle.bd_space.specs.ThreadExits.{thread_goes}
-use Rattle.bd_space.specs.ProcessExits.{threads_go, without_process, tell_deaths}
-use Rattle.bd_ways.specs.Local.{NameTest, at_name, no_name, is_among, names_among, follow_of, close_among}
-use Rattle.bd_ways.specs.LocalExits.{seats_in}
-use Rattle.bd_laws.specs.Lists.{Pairs}
-use Rattle.bd_laws.specs.Objects.{Earlier}
-use Rattle.bd_laws.specs.Tidy.{IsTidy}
-use Rattle.bd_laws.proofs.Lists.{any_found, any_in}
-use Rattle.bd_laws.proofs.Tests.{and_both}
-use Rattle.bd_laws.proofs.Checks.{actor_acts}
-use Rattle.bd_laws.proofs.Leaving.{leaving_local, left_names, left_parts, follow_frames}
-use Rattle.bd_laws.proofs.Ending.{ending_local, ended_parts}
-use Rattle.bd_calls.specs.Closing.{is_place_among}
-use Rattle.bd_step.specs.declared.exit.Exit.{Exit}
-use Rattle.bd_step.specs.declared.tables.Tables.{Tables}
-use Rattle.bd_step.specs.Stands.{Within, MakesWithin}
-use Rattle.bd_step.specs.Following.{MakesOfOrdered}
-use Rattle.bd_step.specs.Meets.{IsBy}
-use Rattle.bd_step.specs.Exits.{HasThread, HasProcess}
-use Rattle.bd_step.proofs.Gathering.{thread_objects, thread_frames, process_objects, process_frames}
+use Rattle.bd_step.proofs.Words.{Actor, Earlier, Exit, Frame, HasProcess, HasThread, Identity, IsBy, IsTidy, List, MakesOfOrdered, MakesWithin, NameTest, Pairs, Space, Tables, Within, actor_acts, and_both, any_found, any_in, ap, at_name, close_among, ended_parts, ending_local, eq-eqb, follow, follow_frames, follow_of, is_among, is_place_among, leaving_local, left_names, left_parts, length, names_among}
+use Rattle.bd_step.proofs.{Words.{no_name, same, seats_in, settle, subst, sym, tell_deaths, thread_goes, threads_go, true, without_process, ℕ, ◌==◌, ◌∙◌, ◌≡◌}, Gathering.{thread_objects, thread_frames, process_objects, process_frames}}
 
 -- what the tables make after the exit
 abbrev pub looked_at : NameTest → Exit → Space → Space

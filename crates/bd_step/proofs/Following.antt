@@ -1,30 +1,7 @@
 -- What follows at some names, and that the objects may come after them.
-use Rattle.std.proofs.Common.{◌≡◌, ℕ, ◌+◌, ◌==◌, ◌<◌, Bool, true, false, cond, not, ◌&&◌, ◌||◌, List, [], ◌∷◌, length, get_or, take, inl, inr, refl, ap, sym, ◌∙◌, filter}
-use Rattle.std.specs.List.{list_any, fold}
-use Rattle.std.proofs.Math.Bool.{or-true, or-false, and-true}
-use Rattle.std.proofs.Math.Path.{fun_ext}
-use Rattle.std.proofs.lemmas.Bool.{eqb-true}
-use Rattle.std.proofs.lemmas.List.{take_more}
-use Rattle.bd_space.specs.declared.step.Identity.{Identity}
-use Rattle.bd_space.specs.declared.space.Object.{Object}
-use Rattle.bd_space.specs.declared.space.Name.{Name}
-use Rattle.bd_space.specs.declared.space.DeathNotification.{DeathNotification}
-use Rattle.bd_space.specs.declared.space.Work.{Work}
-use Rattle.bd_space.specs.declared.space.WorkKind.{WorkKind}
+use Rattle.bd_step.proofs.Words.{Bool, DeathNotification, Identity, In, List, Name, NameTest, Object, ObjectTest, OfProcess, Space, Work, WorkKind, [], and-true, and_both, any_append, any_found, any_in, ap, at_name, both, cond, deaths_followed, deaths_go_of, eqb-true, false, filter, filter_in, fold, follow_of, fun_ext, get_or, in_filter, inl, inr, is_lost, is_name_of, is_named_in, is_touched, length}
+use Rattle.bd_step.proofs.Words.{list_any, names_among, names_followed, names_go_of, neither, no_name, not, notice_stays, notify_of, objects_go_of, or-false, or-true, or_left, or_right, refl, same, same_eq, stays_in, still_due, sym, take, take_more, true, with_notice, work_goes_of, ℕ, ◌&&◌, ◌+◌, ◌<◌, ◌==◌, ◌||◌, ◌∙◌, ◌∷◌, ◌≡◌}
 use Rattle.bd_space.specs.declared.space.WorkKind.TheVariants as work
-use Rattle.bd_space.specs.declared.space.TodoList.TheVariants.{OfProcess}
-use Rattle.bd_space.specs.Words.{same}
-use Rattle.bd_space.specs.Space.{Space}
-use Rattle.bd_space.specs.References.{stays_in}
-use Rattle.bd_space.specs.Names.{is_named_in}
-use Rattle.bd_space.specs.Notices.{with_notice, is_name_of, still_due}
-use Rattle.bd_ways.specs.Local.{NameTest, ObjectTest, names_go_of, objects_go_of, deaths_go_of, is_touched, work_goes_of, notify_of, follow_of, at_name, no_name, names_among}
-use Rattle.bd_objects.specs.Deaths.{is_lost}
-use Rattle.bd_laws.specs.Lists.{In}
-use Rattle.bd_laws.proofs.Lists.{in_filter, filter_in, any_found, any_in}
-use Rattle.bd_laws.proofs.Tests.{both, and_both, neither, or_left, or_right, same_eq}
-use Rattle.bd_laws.proofs.Freeing.{any_append}
-use Rattle.bd_step.specs.Following.{deaths_followed, names_followed, notice_stays}
 
 -- ---- lists
 

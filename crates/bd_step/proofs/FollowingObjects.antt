@@ -1,37 +1,8 @@
 -- What follows at some objects: first they go, or their Notices, and then the Notices that are missing are made.
-use Rattle.std.proofs.Common.{◌≡◌, ℕ, ◌+◌, ◌<◌, Bool, true, false, cond, not, ◌&&◌, ◌||◌, List, [], ◌∷◌, Option, Some, None, option_and_then, arith, length, get_or, take, refl, ap, sym, subst, ◌∙◌, filter}
-use Rattle.std.specs.List.{fold, filter_map, cons_option}
-use Rattle.std.specs.Option.{is_some}
-use Rattle.std.proofs.Math.Bool.{or-true, or-false}
-use Rattle.std.proofs.Math.Path.{fun_ext}
-use Rattle.std.proofs.lemmas.List.Elements.{filter_agree}
-use Rattle.std.proofs.lemmas.List.{take_more}
-use Rattle.std.proofs.lemmas.List.Sums.{fold_more}
-use Rattle.bd_space.specs.declared.step.Identity.{Identity}
-use Rattle.bd_space.specs.declared.space.Object.{Object}
-use Rattle.bd_space.specs.declared.space.Name.{Name}
-use Rattle.bd_space.specs.declared.space.DeathNotification.{DeathNotification}
-use Rattle.bd_space.specs.declared.space.Work.{Work}
-use Rattle.bd_space.specs.declared.space.WorkKind.{WorkKind}
+use Rattle.bd_step.proofs.Words.{Bool, DeathNotification, Earlier, Identity, In, IsNobodyDue, List, Name, None, NotLater, Object, ObjectTest, OfProcess, Option, Pairs, Some, Space, Work, WorkKind, [], any_append, any_found, any_in, ap, arith, at_object, cond, cons_option, deaths_go_of, eq_same, false, filter, filter_agree, filter_map, filter_same, find_kept, fold, fold_more, follow_of, followed_at}
+use Rattle.bd_step.proofs.Words.{fun_ext, get_or, has_notice_in, in_filter, in_last, is_among, is_earlier, is_notice, is_some, is_some_and, is_told_by, is_touched, length, names_go_of, never_earlier, no_name, not, notice_of, notice_stays, notify_of, object_in, objects_go_of, option_and_then, or-false, or-true, owner_due, pairs_filter, refl, same, same_eq, shed_of, stays_in, still_due, subst, sym, take}
+use Rattle.bd_step.proofs.{Words.{take_more, told_at, told_of, true, wants_notice, when, with_notice, with_work, work_goes_of, ℕ, ◌&&◌, ◌+◌, ◌<◌, ◌||◌, ◌∙◌, ◌∷◌, ◌≡◌}, Following.{keeps_all, keeps_none, twice, either_or, due_as_notice, unlooked_stays}}
 use Rattle.bd_space.specs.declared.space.WorkKind.TheVariants as work
-use Rattle.bd_space.specs.declared.space.TodoList.TheVariants.{OfProcess}
-use Rattle.bd_space.specs.Words.{same, is_some_and, when}
-use Rattle.bd_space.specs.Space.{Space}
-use Rattle.bd_space.specs.References.{object_in, stays_in}
-use Rattle.bd_space.specs.ReadItems.{is_told_by}
-use Rattle.bd_space.specs.Todo.{notice_of, with_work, is_notice}
-use Rattle.bd_space.specs.Notices.{wants_notice, has_notice_in, with_notice, still_due}
-use Rattle.bd_ways.specs.Local.{ObjectTest, names_go_of, objects_go_of, deaths_go_of, is_touched, work_goes_of, notify_of, follow_of, no_name, at_object, is_among}
-use Rattle.bd_laws.specs.Lists.{In, Pairs}
-use Rattle.bd_laws.specs.Objects.{is_earlier, Earlier, NotLater}
-use Rattle.bd_laws.proofs.Lists.{in_last, in_filter, any_found, any_in, pairs_filter}
-use Rattle.bd_laws.proofs.Tests.{same_eq, eq_same}
-use Rattle.bd_laws.proofs.Earlier.{never_earlier}
-use Rattle.bd_laws.proofs.Follow.{filter_same, find_kept}
-use Rattle.bd_laws.proofs.Freeing.{any_append}
-use Rattle.bd_objects.specs.Telling.{owner_due}
-use Rattle.bd_step.specs.Following.{notice_stays, shed_of, told_at, told_of, followed_at, IsNobodyDue}
-use Rattle.bd_step.proofs.Following.{keeps_all, keeps_none, twice, either_or, due_as_notice, unlooked_stays}
 
 -- ---- one object more
 

@@ -1,39 +1,8 @@
 -- Freeing a buffer between two steps: only a one-way call on its target may ripen, no call is abandoned, and what it referred to is
 -- looked at alone.
-use Rattle.std.proofs.Common.{◌≡◌, ℕ, ◌==◌, Bool, true, false, ◌&&◌, List, Option, Some, None, Ok, Err, inl, inr, refl, ap, sym, ◌∙◌, find, arith}
-use Rattle.std.specs.Prelude.{if◌then◌else◌}
-use Rattle.std.specs.Option.{option_map}
-use Rattle.std.proofs.lemmas.Bool.{eqb-true, eq-eqb}
-use Rattle.bd_uapi.specs.declared.fault.Note.TheVariants.{NotHandedOut}
-use Rattle.bd_space.specs.declared.step.Identity.{Identity}
-use Rattle.bd_space.specs.declared.space.Buffer.{Buffer}
-use Rattle.bd_space.specs.declared.space.Reference.{Reference}
-use Rattle.bd_space.specs.declared.space.Turn.{Turn}
-use Rattle.bd_space.specs.declared.space.Holder.{Holder}
-use Rattle.bd_space.specs.declared.space.Holder.TheVariants.{Asked, Carried, Target, Handshake, Manager}
-use Rattle.bd_space.specs.Words.{same}
-use Rattle.bd_space.specs.Space.{Space}
-use Rattle.bd_space.specs.References.{is_of_buffer, gives_name_to}
-use Rattle.bd_space.specs.Returns.{buffer_in}
-use Rattle.bd_space.specs.Freeing.{pointer, without_buffer, is_made_at, buffer_at_pointer}
-use Rattle.bd_space.specs.Turns.{turn_of}
-use Rattle.bd_space.specs.Notices.{follow}
-use Rattle.bd_space.specs.Outcomes.{completed}
-use Rattle.bd_ways.specs.Local.{NameTest, ObjectTest, names_of_references, objects_of_references, at_name, at_object, is_among, names_among, follow_of, ripen_of}
-use Rattle.bd_buffers.specs.Buffer.{freed_buffer}
-use Rattle.bd_laws.specs.Lists.{In, Pairs}
-use Rattle.bd_laws.specs.Objects.{Earlier}
-use Rattle.bd_laws.specs.OneWayCalls.{Waits}
-use Rattle.bd_laws.specs.Quiet.{Elsewhere}
-use Rattle.bd_laws.specs.Tidy.{IsTidy}
-use Rattle.bd_laws.proofs.Lists.{in_filter, map_in, any_found, any_in, find_in, find_some, pairs_either}
-use Rattle.bd_laws.proofs.Tests.{both, and_both, same_eq, eq_same}
-use Rattle.bd_laws.proofs.Follow.{follow_local}
-use Rattle.bd_laws.proofs.Fewer.{elsewhere_said, filtered_said, to_false}
-use Rattle.bd_laws.proofs.Freeing.{references_of_buffer, ripen_of_elsewhere, freed_local}
-use Rattle.bd_laws.proofs.Others.{freed_two_way}
-use Rattle.bd_step.specs.Freed.{turn_target, turn_target_at, ripen_next, referred, IsFreeing}
-use Rattle.bd_step.proofs.Afterwards.{ripened_ordered}
+use Rattle.bd_step.proofs.Words.{Asked, Bool, Buffer, Carried, Earlier, Elsewhere, Err, Handshake, Holder, Identity, In, IsFreeing, IsTidy, List, Manager, NameTest, None, NotHandedOut, ObjectTest, Ok, Option, Pairs, Reference, Some, Space, Target, Turn, Waits, and_both, any_found, any_in, ap, arith, at_name, at_object, both, buffer_at_pointer, buffer_in, completed, elsewhere_said, eq-eqb, eq_same}
+use Rattle.bd_step.proofs.Words.{eqb-true, false, filtered_said, find, find_in, find_some, follow, follow_local, follow_of, freed_buffer, freed_local, freed_two_way, gives_name_to, if◌then◌else◌, in_filter, inl, inr, is_among, is_made_at, is_of_buffer, map_in, names_among, names_of_references, objects_of_references, option_map, pairs_either, pointer, references_of_buffer, referred, refl, ripen_next}
+use Rattle.bd_step.proofs.{Words.{ripen_of, ripen_of_elsewhere, same, same_eq, sym, to_false, true, turn_of, turn_target, turn_target_at, without_buffer, ℕ, ◌&&◌, ◌==◌, ◌∙◌, ◌≡◌}, Afterwards.{ripened_ordered}}
 
 module _ (s : Space) (made : ℕ) (tidy : IsTidy s) where
   -- one buffer at most was made there

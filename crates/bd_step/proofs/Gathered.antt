@@ -1,8 +1,5 @@
 -- Where memory was asked for, something is gathered.
-use Rattle.std.proofs.Common.{◌≡◌, ℕ, ◌≤◌, ◌<◌, Bool, true, List, [], ◌∷◌, length, get_or, filter, Result, Ok, Err, OnErr, ap, ◌∙◌, arith}
-use Rattle.std.specs.List.{list_any}
-use Rattle.std.specs.Prelude.{zero, suc}
-use Rattle.bd_laws.proofs.Leaving.{or_left, or_right}
+use Rattle.bd_step.proofs.Words.{Bool, Err, List, Ok, OnErr, Result, [], ap, arith, filter, get_or, length, list_any, or_left, or_right, suc, true, zero, ℕ, ◌<◌, ◌∙◌, ◌∷◌, ◌≡◌, ◌≤◌}
 
 pub on_err : {T E : Type 0} (r : Result T E) {P : Type 0} → P → OnErr r P
 on_err (Ok x) h = tt

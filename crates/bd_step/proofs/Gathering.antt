@@ -1,37 +1,8 @@
 -- What is gathered before an exit: one thing after the other, and then all that the exit touches.
-use Rattle.std.proofs.Common.{◌≡◌, ℕ, ◌+◌, ◌<◌, ◌==◌, Bool, true, false, ◌&&◌, ◌||◌, List, [], ◌∷◌, ◌++◌, drop, length, get_or, map, filter, Option, Some, None, ◌⊎◌, inl, inr, refl, ap, sym, subst, ◌∙◌}
-use Rattle.std.specs.List.{list_any, slice_get}
-use Rattle.std.proofs.lemmas.Bool.{eqb-true, eq-eqb}
-use Rattle.std.proofs.lemmas.List.{append-nil}
-use Rattle.std.proofs.lemmas.Option.{slice_get-get_or}
-use Rattle.std.proofs.lemmas.List.Folds.{list_any-append}
-use Rattle.bd_space.specs.declared.step.Identity.{Identity}
-use Rattle.bd_space.specs.declared.space.Object.{Object}
-use Rattle.bd_space.specs.declared.space.Reference.{Reference}
-use Rattle.bd_space.specs.declared.space.Frame.{Frame}
-use Rattle.bd_space.specs.declared.space.Work.{Work}
-use Rattle.bd_space.specs.declared.space.WorkKind.{WorkKind}
+use Rattle.bd_step.proofs.Words.{Bool, Exit, Frame, Grows, HasAll, HasFrame, HasList, HasObject, HasProcess, HasThread, HasThreads, HasWork, Identity, In, List, None, Object, OfProcess, OfThread, Option, Reference, Some, Space, TodoList, Work, WorkKind, [], any_found, any_in, ap, append-nil, both, buffer_of_holder, drop, eq-eqb, eq_same, eqb-true, false, filter, filter_in, frames_ended, frames_left}
+use Rattle.bd_step.proofs.Words.{get_or, hands_out, in_map, inl, inr, is_among, is_call, is_dropped_with, is_frame, is_left_frame, is_lost_reference, is_lost_with, is_notice, is_of_buffer, is_on, is_place_among, is_some_and, is_unread_on, left_frames, left_objects, length, list_any, list_any-append, lists_in, lost_with_process, map, map_in, objects_ended, objects_left, or_left, or_right, owned_in, refl}
+use Rattle.bd_step.proofs.{Words.{same, same_eq, seats_in, serves, slice_get, slice_get-get_or, subst, sym, true, ℕ, ◌&&◌, ◌++◌, ◌+◌, ◌<◌, ◌==◌, ◌||◌, ◌∙◌, ◌∷◌, ◌≡◌, ◌⊎◌}, TakingItems.{one_left}}
 use Rattle.bd_space.specs.declared.space.WorkKind.TheVariants as work
-use Rattle.bd_space.specs.declared.space.TodoList.{TodoList}
-use Rattle.bd_space.specs.declared.space.TodoList.TheVariants.{OfThread, OfProcess}
-use Rattle.bd_space.specs.Words.{same, is_some_and}
-use Rattle.bd_space.specs.Space.{Space}
-use Rattle.bd_space.specs.References.{owned_in, buffer_of_holder, is_of_buffer}
-use Rattle.bd_space.specs.Frames.{is_frame, serves}
-use Rattle.bd_space.specs.Todo.{is_on, is_call, is_notice, hands_out}
-use Rattle.bd_space.specs.ThreadExits.{is_lost_with, is_lost_reference, is_unread_on}
-use Rattle.bd_space.specs.ProcessExits.{is_dropped_with}
-use Rattle.bd_ways.specs.Local.{is_among}
-use Rattle.bd_ways.specs.LocalExits.{is_left_frame, left_frames, left_objects, objects_left, frames_left, seats_in, lists_in, lost_with_process, objects_ended, frames_ended}
-use Rattle.bd_laws.specs.Lists.{In}
-use Rattle.bd_laws.proofs.Lists.{filter_in, in_map, map_in, any_found, any_in}
-use Rattle.bd_laws.proofs.Tests.{both, same_eq, eq_same}
-use Rattle.bd_laws.proofs.Leaving.{or_left, or_right}
-use Rattle.bd_records.specs.New.{HasAll}
-use Rattle.bd_calls.specs.Closing.{is_place_among}
-use Rattle.bd_step.specs.declared.exit.Exit.{Exit}
-use Rattle.bd_step.specs.Exits.{HasObject, HasFrame, Grows, HasWork, HasList, HasThread, HasThreads, HasProcess}
-use Rattle.bd_step.proofs.TakingItems.{one_left}
 
 -- ---- one after the other
 

@@ -1,21 +1,5 @@
 -- Buffers that go one after the other, by the work items that would have handed them out.
-use Rattle.std.proofs.Common.{◌≡◌, ◌==◌, ◌∙◌, ℕ, Bool, true, false, not, ◌||◌, ◌&&◌, List, [], ◌∷◌, Option, Some, None, refl, ap, sym, subst, filter, rules, tests, arith}
-use Rattle.std.specs.List.{list_any}
-use Rattle.std.proofs.Math.Path.{fun_ext}
-use Rattle.bd_space.specs.declared.space.Buffer.{Buffer}
-use Rattle.bd_space.specs.declared.space.Reference.{Reference}
-use Rattle.bd_space.specs.declared.space.TodoList.TheVariants.{OfThread}
-use Rattle.bd_space.specs.declared.space.Work.{Work}
-use Rattle.bd_space.specs.Words.{is_some_and}
-use Rattle.bd_space.specs.Space.{Space}
-use Rattle.bd_space.specs.References.{buffer_of_holder}
-use Rattle.bd_space.specs.Todo.{hands_out, work_on, is_on}
-use Rattle.bd_space.specs.Freeing.{without_buffer}
-use Rattle.bd_space.specs.ThreadExits.{is_lost_with}
-use Rattle.bd_objects.specs.declared.table.ObjectTable.{ObjectTable}
-use Rattle.bd_objects.specs.Room.{UsesNothing}
-use Rattle.bd_todo.proofs.OnList.{any_filter}
-use Rattle.bd_step.specs.Handed.{without_any, without_handed, without_all_handed}
+use Rattle.bd_step.proofs.{Words.{Bool, Buffer, List, None, ObjectTable, OfThread, Option, Reference, Some, Space, UsesNothing, Work, [], any_filter, ap, arith, buffer_of_holder, false, filter, fun_ext, hands_out, is_lost_with, is_on, is_some_and, list_any, not, refl, rules, subst, sym, tests, true, without_all_handed, without_any, without_buffer, without_handed, work_on, ℕ, ◌&&◌, ◌==◌, ◌||◌, ◌∙◌, ◌∷◌}, Words.{◌≡◌}}
 use Rattle.bd_step.proofs.Following.{keeps_all, twice}
 
 -- ---- one after the other

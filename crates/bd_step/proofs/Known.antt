@@ -1,21 +1,8 @@
 -- Of an object that a parcel makes nothing follows: the buffer refers to it, and its Notice has just been made.
-use Rattle.bd_laws.proofs.words.Logic.{arith, ◌≡◌, ℕ, ◌==◌, ◌+◌, ◌≤◌, length, Bool, true, false, cond, not, ◌&&◌, ◌||◌, List, [], ◌∷◌, ◌++◌, Option, Some, None, ◌⊎◌, inl, inr, refl, ap, sym, subst, ◌∙◌, fold, filter_map, cons_option, eqb-true, list_any-append}
-use Rattle.std.proofs.Math.Bool.{or-true}
-use Rattle.bd_laws.proofs.words.Types.{TransactionData, Identity, Object, Reference, Item, Actor, Work, Frame, OfThread, is_own}
-use Rattle.bd_laws.proofs.words.Space.{same, is_some_and, Space, object_in, held_in, lives_in, wants_notice, has_notice_in, is_notice, with_work, with_notice, owe, goes_to, Delivery, delivered, own_notices, add_notice, add_buffer, with_carried, assign_numbers, refer, make_objects, buffer_of, buffer_references, ObjectTest, no_name, objects_of_items, transacted, called, call_out, replied, closed, is_spam, follow_of}
+use Rattle.bd_step.proofs.Words.{Actor, Bool, Delivers, Delivery, Earlier, Elsewhere, Frame, Identity, In, IsFollowed, Item, KeptBefore, List, None, Object, ObjectTest, OfThread, Option, Pairs, Reference, Some, Space, TransactionData, Work, [], add_buffer, add_notice, any_found, any_in, any_more, ap, are_known_before, arith, assign_numbers, buffer_of, buffer_references, call_out, called, closed, cond}
+use Rattle.bd_step.proofs.Words.{cons_option, delivered, delivered_elsewhere, eq_same, eqb-true, false, filter_map, find_in, find_only, fold, fold_keeps, follow_local, follow_of, goes_to, has_notice_in, held_in, in_filter, in_last, in_order_differ, in_push, inl, inr, is_among, is_notice, is_own, is_some_and, is_spam, known_before, length, list_any-append, lives_in, make_objects, no_name, not}
+use Rattle.bd_step.proofs.Words.{notice_keeps, object_in, objects_of_items, or-true, owe, owe_elsewhere, own_notices, refer, refl, replied, ripen_next, ripen_of_elsewhere, same, same_eq, sent_notices_keep, subst, sym, told_keeps, transacted, true, wants_notice, with_carried, with_notice, with_work, ℕ, ◌&&◌, ◌++◌, ◌+◌, ◌==◌, ◌||◌, ◌∙◌, ◌∷◌, ◌≡◌, ◌≤◌, ◌⊎◌}
 use Rattle.bd_space.specs.declared.space.WorkKind.TheVariants as work
-use Rattle.bd_ways.specs.Local.{is_among}
-use Rattle.bd_laws.proofs.words.Laws.{In, Pairs, Earlier, KeptBefore, Elsewhere, IsFollowed}
-use Rattle.bd_laws.proofs.Lists.{in_push, in_last, in_filter, any_found, any_in, find_in, fold_keeps}
-use Rattle.bd_laws.proofs.Tests.{same_eq, eq_same}
-use Rattle.bd_laws.proofs.Earlier.{in_order_differ}
-use Rattle.bd_laws.proofs.Follow.{follow_local}
-use Rattle.bd_laws.proofs.Freeing.{owe_elsewhere, ripen_of_elsewhere}
-use Rattle.bd_laws.proofs.Machine.Adding.{notice_keeps, told_keeps}
-use Rattle.bd_laws.proofs.FollowingIsLocal.Finding.{any_more, find_only}
-use Rattle.bd_laws.proofs.FollowingIsLocal.Sent.{Delivers, delivered_elsewhere, sent_notices_keep}
-use Rattle.bd_step.specs.Freed.{ripen_next}
-use Rattle.bd_step.specs.Known.{known_before, are_known_before}
 
 -- ---- what is sent is known before, or made
 

@@ -1,3 +1,4 @@
+mod Words
 pub mod Refusals
 pub mod Standing
 pub mod Meeting

@@ -1,52 +1,12 @@
 -- Which buffers a step leaves: all, but by a BC_FREE_BUFFER and the exits.
-use Rattle.std.proofs.Common.{◌≡◌, ℕ, ◌-◌, Bool, true, false, cond, List, Option, Some, None, Result, Ok, Err, refl, sym, subst, ◌∙◌}
-use Rattle.bd_uapi.specs.declared.command.TransactionData.{TransactionData}
-use Rattle.bd_uapi.specs.declared.command.Command.{Command}
-use Rattle.bd_uapi.specs.declared.command.Command.TheVariants as bc
-use Rattle.bd_uapi.specs.declared.command.Return.TheVariants.{DeadReply, FailedReply, TransactionComplete}
-use Rattle.bd_uapi.specs.declared.fault.Fault.{Fault}
-use Rattle.bd_uapi.specs.declared.fault.Cause.{Cause}
-use Rattle.bd_uapi.specs.declared.fault.Note.{Note}
-use Rattle.bd_uapi.specs.declared.fault.Note.TheVariants.{NoneTold}
-use Rattle.bd_space.specs.Words.{ok_or}
-use Rattle.bd_space.specs.declared.step.Identity.{Identity}
-use Rattle.bd_space.specs.declared.step.Parcel.{Parcel}
-use Rattle.bd_space.specs.declared.step.Step.{Step}
-use Rattle.bd_space.specs.declared.step.Step.TheVariants as step_of
-use Rattle.bd_space.specs.declared.space.Actor.{Actor}
-use Rattle.bd_space.specs.declared.space.Process.{Process}
-use Rattle.bd_space.specs.declared.space.Object.{Object}
-use Rattle.bd_space.specs.declared.space.Frame.{Frame}
-use Rattle.bd_space.specs.declared.space.Buffer.{Buffer}
-use Rattle.bd_space.specs.declared.space.Work.{Work}
-use Rattle.bd_space.specs.declared.space.DeathNotification.{DeathNotification}
-use Rattle.bd_space.specs.declared.space.TodoList.TheVariants.{OfThread}
+use Rattle.bd_step.proofs.Words.{Actor, Bool, Buffer, Cause, Command, DeadReply, DeathNotification, Delivery, Err, FailedReply, Fault, Frame, Identity, In, List, None, NoneTold, Note, Object, OfThread, Ok, Option, Outcome, Parcel, Process, Result, Some, Space, Step, TransactionComplete, TransactionData, Untouched, Work, acknowledge, actor, add_buffer, ask, ask_check, assign_numbers, attach_outcome}
+use Rattle.bd_step.proofs.Words.{attach_step, buffer_taken, by_actor, by_check, called_untouched, change, changed_in, clear_check, cleared, closed, closed_untouched, command_step, completed, cond, death_done, deaths_go, delivered, done_check, drop_asked, drop_check, false, follow, hand_out, handed_buffers, in_left, is_made_at, is_manager_busy, is_some, is_spam, list_to_read, make_objects}
+use Rattle.bd_step.proofs.Words.{manager_outcome, manager_step, names_go, notify, objects_go, ok_or, on_cleared, on_deaths_untouched, on_done, on_requested, open_fault, open_outcome, open_step, owe, owe_untouched, own_notices, process_with_pid, read_by, read_fault, read_step, read_taking, refer, refl, refusal, refused, replied, reply_check, reply_outcome, reply_refused, reply_step, reply_to}
+use Rattle.bd_step.proofs.Words.{request_check, requested, ripen, ripen_untouched, served_innermost, settle, settle_keeps, spam_step, subst, sym, taken, thread_in, told_death, told_untouched, transacted, transaction_check, transaction_outcome, transaction_step, true, untouched_trans, with_carried, with_looping, with_looping_untouched, with_manager, with_process, with_spam_detection, with_thread}
+use Rattle.bd_step.proofs.Words.{work_goes, ℕ, ◌-◌, ◌∙◌, ◌≡◌}
 use Rattle.bd_space.specs.declared.space.WorkKind.TheVariants as work
-use Rattle.bd_space.specs.Space.{Space}
-use Rattle.bd_space.specs.Seats.{actor, thread_in, process_with_pid}
-use Rattle.bd_space.specs.Todo.{owe, list_to_read}
-use Rattle.bd_space.specs.Frames.{closed, served_innermost}
-use Rattle.bd_space.specs.Settle.{settle}
-use Rattle.bd_space.specs.Outcomes.{Outcome, completed, refused, by_check}
-use Rattle.bd_space.specs.Turns.{ripen}
-use Rattle.bd_space.specs.Notices.{follow, notify, work_goes, deaths_go}
-use Rattle.bd_space.specs.Names.{names_go, assign_numbers}
-use Rattle.bd_space.specs.References.{objects_go}
-use Rattle.bd_space.specs.Delivery.{Delivery, delivered, own_notices, add_buffer, with_carried, refer, make_objects}
-use Rattle.bd_space.specs.Transactions.{transaction_step, transaction_outcome, transaction_check, transacted, refusal}
-use Rattle.bd_space.specs.Replies.{reply_step, reply_to, reply_outcome, reply_check, replied, reply_refused}
-use Rattle.bd_space.specs.Freeing.{is_made_at}
-use Rattle.bd_space.specs.Asking.{ask_check, ask, drop_check, drop_asked, done_check, acknowledge}
-use Rattle.bd_space.specs.Deaths.{request_check, requested, clear_check, cleared, told_death, death_done}
-use Rattle.bd_space.specs.Spam.{is_spam, spam_step, with_spam_detection}
-use Rattle.bd_space.specs.Steps.{command_step, with_looping, change, by_actor, open_step, open_outcome, open_fault, attach_step, attach_outcome, manager_step, manager_outcome, is_manager_busy, with_thread, with_process, with_manager}
-use Rattle.bd_space.specs.ReadItems.{read_step, read_fault, read_taking, read_by, taken, hand_out, handed_buffers, buffer_taken}
-use Rattle.bd_laws.specs.Lists.{In}
-use Rattle.bd_laws.proofs.Lists.{in_left, changed_in}
-use Rattle.bd_laws.proofs.Machine.Deaths.{on_requested, on_cleared, on_done}
-use Rattle.bd_laws.proofs.Machine.Settled.{settle_keeps}
-use Rattle.bd_laws.proofs.Machine.Untouched.{Untouched, untouched_trans, owe_untouched, told_untouched, called_untouched, closed_untouched, ripen_untouched, with_looping_untouched, on_deaths_untouched}
-use Rattle.std.specs.Prelude.{is_some}
+use Rattle.bd_space.specs.declared.step.Step.TheVariants as step_of
+use Rattle.bd_uapi.specs.declared.command.Command.TheVariants as bc
 
 -- each of these buffers is among those, as the buffer made there
 abbrev pub AllLive : List Buffer → List Buffer → Type 0

@@ -1,27 +1,6 @@
 -- A step meets its definition, space by space.
-use Rattle.std.proofs.Common.{ℕ, ◌≡◌, true, Option, Result, Ok, Err, refl, ap, sym, subst, ◌∙◌}
-use Rattle.bd_uapi.specs.declared.fault.Fault.{Fault}
-use Rattle.bd_uapi.specs.declared.command.Command.{Command as BinderCommand}
-use Rattle.bd_space.specs.declared.step.Parcel.{Parcel}
-use Rattle.bd_space.specs.declared.step.Step.{Step}
-use Rattle.bd_space.specs.declared.step.Step.TheVariants.{Command, Read}
-use Rattle.bd_space.specs.declared.step.StepAnswer.{StepAnswer}
-use Rattle.bd_space.specs.declared.step.StepAnswer.TheVariants.{Refused}
-use Rattle.bd_space.specs.declared.space.Actor.{Actor}
-use Rattle.bd_space.specs.Space.{Space}
-use Rattle.bd_space.specs.Seats.{actor}
-use Rattle.bd_space.specs.Steps.{by_actor}
-use Rattle.bd_space.specs.Names.{has_number_past_limit}
-use Rattle.bd_space.specs.Outcomes.{Outcome, refused}
-use Rattle.bd_step.specs.declared.tables.Tables.{Tables}
-use Rattle.bd_step.specs.declared.answer.Plain.{Plain}
-use Rattle.bd_step.specs.declared.answer.Brief.{Brief}
-use Rattle.bd_step.specs.Plain.{IsRare, answer_of, IsWritten}
-use Rattle.bd_step.specs.Stands.{Before, Within}
-use Rattle.bd_step.specs.declared.step_error.StepError.{StepError}
-use Rattle.bd_step.specs.Refusals.{FullOnly}
-use Rattle.bd_step.specs.Meets.{Meets, IsRefused, IsAny, IsBy, IsStep, IsStepWritten}
-use Rattle.bd_step.proofs.Standing.{within}
+use Rattle.bd_step.proofs.{Words.{Actor, Before, BinderCommand, Brief, Err, Fault, FullOnly, IsAny, IsBy, IsRare, IsRefused, IsStep, IsStepWritten, IsWritten, Meets, Ok, Option, Outcome, Parcel, Plain, Read, Refused, Result, Space, Step, StepAnswer, StepError, Tables, Within, actor, answer_of, ap, by_actor, has_number_past_limit, refl, refused, subst, sym, true, ℕ, ◌∙◌, ◌≡◌}, Standing.{within}}
+use Rattle.bd_space.specs.declared.step.Step.TheVariants.{Command}
 
 -- the tables stand for this outcome's space, and the answer is its answer
 pub record IsOutcome (new : Tables) (answer : StepAnswer) (o : Outcome) : Type 0 where

@@ -1,40 +1,7 @@
 -- What a step takes in is new, and what it refers to is there, by what holds between two steps.
-use Rattle.std.proofs.Common.{◌≡◌, ◌==◌, ◌||◌, ℕ, Bool, true, false, not, List, [], ◌∷◌, ◌++◌, inl, inr, append-nil, append_assoc, length, find, Option, Some, None, Ok, refl, ap, sym, subst, arith}
-use Rattle.std.specs.Option.{option_to_list, is_some}
-use Rattle.std.proofs.lemmas.Bool.{eqb-true}
-use Rattle.bd_uapi.specs.declared.command.TransactionData.{TransactionData}
-use Rattle.bd_uapi.specs.declared.object.FlatObject.{FlatObject}
-use Rattle.bd_uapi.specs.declared.fault.Fault.{Fault}
-use Rattle.bd_uapi.specs.declared.fault.Note.TheVariants.{NoSuchNumber, AlreadyAsked}
-use Rattle.bd_space.specs.declared.step.Identity.{Identity}
-use Rattle.bd_space.specs.declared.step.Parcel.{Parcel}
-use Rattle.bd_space.specs.declared.space.Object.{Object}
-use Rattle.bd_space.specs.declared.space.Item.{Item}
-use Rattle.bd_space.specs.declared.space.Resolved.{Resolved}
-use Rattle.bd_space.specs.Words.{same, ok_or, unless, when, first_of}
-use Rattle.bd_space.specs.Space.{Space}
-use Rattle.bd_space.specs.Seats.{thread_in, process_with_pid}
-use Rattle.bd_space.specs.References.{object_in, own_in}
-use Rattle.bd_space.specs.Names.{named}
-use Rattle.bd_space.specs.Deaths.{is_notification, uncleared_in, request_check}
-use Rattle.bd_space.specs.Parcels.{Sending, new_object, resolve, sending_of}
-use Rattle.bd_space.specs.Delivery.{Delivery}
-use Rattle.bd_space.specs.Steps.{is_manager_busy, is_pid, is_window, open_fault}
-use Rattle.bd_laws.specs.Lists.{In}
-use Rattle.bd_laws.specs.Items.{IsQueued}
-use Rattle.bd_laws.specs.Objects.{Here}
-use Rattle.bd_laws.specs.Tidy.{IsTidy}
-use Rattle.bd_laws.proofs.Lists.{in_append, in_left}
-use Rattle.bd_laws.proofs.Objects.{here_found, asked_found, carried_found}
-use Rattle.bd_laws.proofs.Checks.{asked_others}
-use Rattle.bd_laws.proofs.Tests.{same_eq, and_then_ok, unless_ok, when_none}
-use Rattle.bd_laws.proofs.Fewer.{to_false}
-use Rattle.bd_laws.proofs.Sending.{find_none}
-use Rattle.bd_laws.proofs.Sendings.{Made, none_made, resolves, resolved_by, sending_keeps, sending_sends}
-use Rattle.bd_records.specs.New.{IsNewIn, AreNewIn}
-use Rattle.bd_objects.specs.New.{IsAsked, IsNewManager, IsNewDeath}
-use Rattle.bd_step.specs.Meets.{IsAsking}
-use Rattle.bd_step.specs.Deliveries.{CanSend}
+use Rattle.bd_step.proofs.Words.{AlreadyAsked, AreNewIn, Bool, CanSend, Delivery, Fault, FlatObject, Here, Identity, In, IsAsked, IsAsking, IsNewDeath, IsNewIn, IsNewManager, IsQueued, IsTidy, Item, List, Made, NoSuchNumber, None, Object, Ok, Option, Parcel, Resolved, Sending, Some, Space, TransactionData, [], and_then_ok, ap, append-nil, append_assoc, arith, asked_found, asked_others, carried_found}
+use Rattle.bd_step.proofs.Words.{eqb-true, false, find, find_none, first_of, here_found, in_append, in_left, inl, inr, is_manager_busy, is_notification, is_pid, is_some, is_window, length, named, new_object, none_made, not, object_in, ok_or, open_fault, option_to_list, own_in, process_with_pid, refl, request_check, resolve, resolved_by, resolves, same, same_eq, sending_keeps, sending_of, sending_sends}
+use Rattle.bd_step.proofs.Words.{subst, sym, thread_in, to_false, true, uncleared_in, unless, unless_ok, when, when_none, ℕ, ◌++◌, ◌==◌, ◌||◌, ◌∷◌, ◌≡◌}
 
 pub is_none : {A : Type 0} (o : Option A) → is_some o ≡ false → o ≡ None
 is_none None h = refl

@@ -1,8 +1,5 @@
 -- The sizes that a process's window may have.
-use Rattle.std.specs.Prelude.{◌≡◌, ◌≤◌, ◌%◌, ◌==◌, ◌&&◌, ℕ, true, nat_le}
-use Rattle.std.proofs.Common.{arith}
-use Rattle.std.proofs.lemmas.Bool.{and_parts, eqb-true, leb-true}
-use Rattle.bd_space.specs.Steps.{is_window}
+use Rattle.bd_step.proofs.Words.{and_parts, arith, eqb-true, is_window, leb-true, nat_le, true, ℕ, ◌%◌, ◌&&◌, ◌==◌, ◌≡◌, ◌≤◌}
 
 -- whole pages, so whole words
 pub window_size : (size : ℕ) → is_window size ≡ true → (size % 8 ≡ 0) × (size ≤ 4194304)

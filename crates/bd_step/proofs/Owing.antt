@@ -1,30 +1,8 @@
 -- What is told of a process's end changes death notifications and work items alone, and by what it is told is known before.
-use Rattle.std.proofs.Common.{◌≡◌, ℕ, ◌+◌, ◌<◌, ◌==◌, Bool, true, false, cond, List, [], ◌∷◌, take, length, get_or, map, filter, refl, ap, sym, subst, ◌∙◌}
-use Rattle.std.specs.List.{fold}
-use Rattle.std.proofs.lemmas.List.Sums.{fold_more}
-use Rattle.bd_space.specs.declared.space.Work.{Work}
-use Rattle.bd_space.specs.declared.space.Object.{Object}
-use Rattle.bd_space.specs.declared.space.Thread.{Thread}
-use Rattle.bd_space.specs.declared.space.DeathNotification.{DeathNotification}
-use Rattle.bd_space.specs.declared.space.Phase.TheVariants.{Queued}
-use Rattle.bd_space.specs.declared.space.TodoList.TheVariants.{OfProcess}
-use Rattle.bd_space.specs.declared.space.WorkKind.TheVariants.{Death}
-use Rattle.bd_space.specs.Space.{Space}
-use Rattle.bd_space.specs.Deaths.{with_phase}
-use Rattle.bd_space.specs.Turns.{turns_of}
-use Rattle.bd_space.specs.Todo.{owe}
-use Rattle.bd_space.specs.ThreadExits.{thread_goes}
-use Rattle.bd_space.specs.ProcessExits.{seat_of, threads_go, without_process, tell_death, tell_deaths}
-use Rattle.bd_processes.specs.Stands.{ProcessesAre}
-use Rattle.bd_deaths.specs.Due.{is_due, due_in}
-use Rattle.bd_objects.specs.declared.table.ObjectTable.{ObjectTable}
-use Rattle.bd_objects.specs.Stands as objects
-use Rattle.bd_objects.proofs.Owned.{both_filters}
+use Rattle.bd_step.proofs.Words.{Bool, Death, DeathNotification, List, Object, ObjectTable, OfProcess, ProcessesAre, Queued, Space, StandsAt, Tables, Thread, WindowsOf, Within, Work, [], ap, both_filters, cond, due_in, false, filter, fold, fold_more, get_or, is_due, length, map, owe, owed, owed_death, refl, seat_of, subst, sym, take, tell_death, tell_deaths, thread_goes, threads_go, true, turns_of}
+use Rattle.bd_step.proofs.Words.{with_phase, without_process, ℕ, ◌+◌, ◌<◌, ◌==◌, ◌∙◌, ◌∷◌, ◌≡◌}
 use Rattle.bd_calls.specs.Stands as calls
-use Rattle.bd_buffers.specs.WindowsStand.{WindowsOf}
-use Rattle.bd_step.specs.declared.tables.Tables.{Tables}
-use Rattle.bd_step.specs.Stands.{StandsAt, Within}
-use Rattle.bd_step.specs.Telling.{owed_death, owed}
+use Rattle.bd_objects.specs.Stands as objects
 
 rest : Space → Space
 rest s = record s { deaths = []; todo = [] }

@@ -1,7 +1,5 @@
 -- Why a step is refused.
-use Rattle.bd_step.specs.declared.step_error.StepError.{StepError}
-use Rattle.bd_step.specs.declared.step_error.StepError.TheVariants.{NoMemory, HistoryFull}
-use Rattle.bd_step.specs.Refusals.{FullOnly, MemoryOnly}
+use Rattle.bd_step.proofs.Words.{FullOnly, HistoryFull, MemoryOnly, NoMemory, StepError}
 
 pub memory_if : (why : StepError) (A : Type 0) → A → MemoryOnly why A
 memory_if NoMemory A x = x

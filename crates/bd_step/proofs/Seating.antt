@@ -1,25 +1,7 @@
 -- The seat of a step.
-use Rattle.std.proofs.Common.{◌≡◌, ℕ, Option, Some, None, refl, ap, sym, subst, ◌∙◌}
-use Rattle.std.specs.Prelude.{◌==◌, option_and_then, option_map}
-use Rattle.std.proofs.lemmas.Bool.{eqb-true}
-use Rattle.std.proofs.lemmas.Option.{none-some}
-use Rattle.bd_uapi.specs.declared.fault.Fault.TheVariants.{NoProcess}
-use Rattle.bd_space.specs.declared.step.Step.{Step}
-use Rattle.bd_space.specs.declared.step.Step.TheVariants.{Open, Attach, SetManager, SetSpam, Command, Read, ExitThread, ExitProcess}
-use Rattle.bd_space.specs.declared.space.Thread.{Thread}
-use Rattle.bd_space.specs.declared.space.Process.{Process}
-use Rattle.bd_space.specs.declared.space.Actor.{Actor}
-use Rattle.bd_space.specs.Space.{Space}
-use Rattle.bd_space.specs.Seats.{actor, actor_of, thread_in, process_in}
-use Rattle.bd_laws.specs.Tidy.{IsTidy}
-use Rattle.bd_step.specs.Meets.{IsBy}
-use Rattle.bd_step.proofs.Finding.{found_passes}
-use Rattle.bd_space.specs.Steps.{change, by_actor, manager_step, command_step}
-use Rattle.bd_space.specs.Spam.{spam_step}
-use Rattle.bd_space.specs.ReadItems.{read_step}
-use Rattle.bd_space.specs.ThreadExits.{exit_thread_step}
-use Rattle.bd_space.specs.ProcessExits.{exit_process_step}
-use Rattle.bd_space.specs.Outcomes.{refused}
+use Rattle.bd_step.proofs.Words.{Actor, Attach, ExitProcess, ExitThread, IsBy, IsTidy, NoProcess, None, Open, Option, Process, Read, SetManager, SetSpam, Some, Space, Step, Thread, actor, actor_of, ap, by_actor, change, command_step, eqb-true, exit_process_step, exit_thread_step, manager_step, none-some, option_and_then, option_map, process_in, read_step, refl, refused, spam_step, subst, sym, thread_in}
+use Rattle.bd_step.proofs.{Words.{ℕ, ◌==◌, ◌∙◌, ◌≡◌}, Finding.{found_passes}}
+use Rattle.bd_space.specs.declared.step.Step.TheVariants.{Command}
 
 -- a seat without a live thread can only open and attach
 pub nobody_changes : (s : Space) (seat : ℕ) (x : Step) → ((a b c : ℕ) → x ≡ Open a b c → ⊥) → ((a : ℕ) → x ≡ Attach a → ⊥) → actor s seat ≡ None

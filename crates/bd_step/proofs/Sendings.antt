@@ -1,28 +1,6 @@
 -- The objects of a parcel, one resolved after the other.
-use Rattle.std.proofs.Common.{◌≡◌, ℕ, true, ◌+◌, ◌%◌, ◌<◌, ◌≤◌, List, [], ◌∷◌, ◌++◌, Option, None, Some, Result, Ok, Err, zero, suc, drop, length, length-append, get_or, refl, ap, sym, ◌∙◌, arith, add-one, drop-cons}
-use Rattle.std.proofs.Math.ListN.{drop_of_length-le}
-use Rattle.std.proofs.lemmas.List.Elements.{All-append}
-use Rattle.std.proofs.lemmas.Option.{slice_get_within, unwrap_or-slice_get}
-use Rattle.std.specs.Result.{IfOk}
-use Rattle.std.proofs.lemmas.Result.{IfOk-weaker}
-use Rattle.bd_step.specs.declared.tables.Tables.{Tables}
-use Rattle.bd_step.specs.Stands.{StandsAt}
-use Rattle.std.specs.List.{slice_get, All}
-use Rattle.std.specs.Option.{option_to_list, unwrap_or}
-use Rattle.bd_uapi.specs.declared.object.FlatObject.{FlatObject}
-use Rattle.bd_uapi.specs.declared.fault.Cause.{Cause}
-use Rattle.bd_parcel.specs.Reading.{object_at, objects_at}
-use Rattle.bd_parcel.proofs.Walks.{object_at_index}
-use Rattle.bd_space.specs.declared.space.Object.{Object}
-use Rattle.bd_space.specs.declared.space.Item.{Item}
-use Rattle.bd_space.specs.declared.space.Resolved.{Resolved}
-use Rattle.bd_space.specs.Words.{and_then}
-use Rattle.bd_space.specs.Space.{Space}
-use Rattle.bd_space.specs.declared.step.Parcel.{Parcel}
-use Rattle.bd_space.specs.Parcels.{Sending, resolve, resolve_all, resolve_walked, sending_of, has_sizes}
-use Rattle.bd_uapi.specs.declared.command.TransactionData.{TransactionData}
-use Rattle.bd_parcel.specs.Parcels.{offsets_in, fault_in}
-use Rattle.std.proofs.lemmas.Bool.{eq-eqb}
+use Rattle.bd_step.proofs.Words.{All, All-append, Cause, Err, FlatObject, IfOk, IfOk-weaker, Item, List, None, Object, Ok, Option, Parcel, Resolved, Result, Sending, Some, Space, StandsAt, Tables, TransactionData, [], add-one, and_then, ap, arith, drop, drop-cons, drop_of_length-le, eq-eqb, fault_in, get_or, has_sizes, length, length-append, object_at, object_at_index, objects_at, offsets_in}
+use Rattle.bd_step.proofs.Words.{option_to_list, refl, resolve, resolve_all, resolve_walked, sending_of, slice_get, slice_get_within, suc, sym, true, unwrap_or, unwrap_or-slice_get, zero, ℕ, ◌%◌, ◌++◌, ◌+◌, ◌<◌, ◌∙◌, ◌∷◌, ◌≡◌, ◌≤◌}
 
 next : (os : List ℕ) (k start : ℕ) → slice_get os k ≡ Some start → drop k os ≡ start ∷ drop (k + 1) os
 next os k start at =

@@ -1,12 +1,5 @@
 -- The bytes of returns, piece by piece.
-use Rattle.std.proofs.Common.{◌≡◌, ℕ, ◌+◌, ◌<◌, List, [], ◌∷◌, ◌++◌, take, length, get_or, map, Option, ap, sym, ◌∙◌, append_assoc}
-use Rattle.std.specs.List.{flat_map, concat}
-use Rattle.std.proofs.lemmas.List.{take_more, map-append, append-nil}
-use Rattle.std.proofs.lemmas.List.Folds.{concat-append}
-use Rattle.std.proofs.lemmas.Grind.{flat_map-append}
-use Rattle.bd_uapi.specs.declared.command.Return.{Return}
-use Rattle.bd_codec.specs.Spelling.{return_bytes}
-use Rattle.bd_space.specs.Words.{option_to_list}
+use Rattle.bd_step.proofs.Words.{List, Option, Return, [], ap, append-nil, append_assoc, concat, concat-append, flat_map, flat_map-append, get_or, length, map, map-append, option_to_list, return_bytes, sym, take, take_more, ℕ, ◌++◌, ◌+◌, ◌<◌, ◌∙◌, ◌∷◌, ◌≡◌}
 
 bytes : List (Option Return) → List ℕ
 bytes rs = concat (map return_bytes (flat_map option_to_list rs))

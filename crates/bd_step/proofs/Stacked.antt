@@ -1,15 +1,5 @@
 -- Between two steps a thread's innermost frame is its newest.
-use Rattle.std.proofs.Common.{◌≡◌, ℕ, suc, ◌≤◌, ◌<◌, arith, inl, inr, Bool, true, false, cond, List, [], ◌∷◌, ◌++◌, filter, find, reverse, Option, Some, None, refl, ap, sym, ◌∙◌}
-use Rattle.std.proofs.lemmas.List.{reverse-append}
-use Rattle.bd_space.specs.declared.space.Frame.{Frame}
-use Rattle.bd_space.specs.Frames.{takes_part}
-use Rattle.bd_space.specs.Space.{Space}
-use Rattle.bd_calls.specs.Stacked.{IsStacked, IsAfter, TakesCalls}
-use Rattle.bd_laws.specs.Lists.{In}
-use Rattle.bd_laws.specs.Frames.{IsFramed}
-use Rattle.bd_laws.specs.Stacks.{last_of}
-use Rattle.bd_laws.specs.Tidy.{IsTidy}
-use Rattle.bd_laws.proofs.Stacks.{innermost_last}
+use Rattle.bd_step.proofs.Words.{Bool, Frame, In, IsAfter, IsFramed, IsStacked, IsTidy, List, None, Option, Some, Space, TakesCalls, [], ap, arith, cond, false, filter, find, inl, innermost_last, inr, last_of, refl, reverse, reverse-append, suc, sym, takes_part, true, ℕ, ◌++◌, ◌<◌, ◌∙◌, ◌∷◌, ◌≡◌, ◌≤◌}
 
 abbrev or_else : Option Frame → Option Frame → Option Frame
 or_else None o = o

@@ -1,30 +1,8 @@
 -- How tables go on standing for a space.
-use Rattle.std.proofs.Common.{◌≡◌, ℕ, zero, suc, ◌+◌, ◌&&◌, ◌||◌, ◌==◌, Bool, true, [], length, Option, Some, None, refl, ap, sym, subst, ◌∙◌}
-use Rattle.std.specs.List.{find}
-use Rattle.bd_uapi.specs.declared.command.Return.TheVariants.{DeadReply}
-use Rattle.bd_space.specs.declared.space.Frame.{Frame}
-use Rattle.bd_space.specs.declared.space.WorkKind.{WorkKind}
-use Rattle.bd_space.specs.declared.space.WorkKind.TheVariants.{Verdict}
-use Rattle.bd_space.specs.declared.space.TodoList.TheVariants.{OfThread}
-use Rattle.bd_space.specs.Words.{is_some_and}
-use Rattle.bd_space.specs.Space.{Space}
-use Rattle.bd_space.specs.Frames.{closed, is_frame}
-use Rattle.bd_space.specs.Todo.{owe, tell_caller}
-use Rattle.bd_space.specs.References.{objects_go}
-use Rattle.bd_space.specs.Names.{names_go, has_number_past_limit}
-use Rattle.bd_space.specs.Turns.{ripen}
-use Rattle.bd_space.specs.Notices.{follow, notify, work_goes, deaths_go}
-use Rattle.bd_space.specs.Settle.{settle, settle_one, settle_times, is_abandoned}
-use Rattle.bd_space.specs.Outcomes.{completed}
-use Rattle.bd_ways.specs.Local.{close_up, close_among}
-use Rattle.bd_processes.specs.Stands.{ProcessesAre}
-use Rattle.bd_objects.specs.Stands as objects
-use Rattle.bd_calls.specs.declared.table.CallTable.{CallTable}
+use Rattle.bd_step.proofs.Words.{Before, Bool, CallTable, DeadReply, Frame, None, OfThread, Option, ProcessesAre, Some, Space, Tables, Verdict, WindowsOf, Within, WorkKind, [], ap, close_among, close_up, closed, completed, deaths_go, find, follow, has_number_past_limit, is_abandoned, is_frame, is_some_and, length, names_go, notify, objects_go, owe, refl, ripen, settle, settle_one, settle_times}
+use Rattle.bd_step.proofs.Words.{stands_in, subst, suc, sym, tell_caller, true, work_goes, zero, ℕ, ◌&&◌, ◌+◌, ◌==◌, ◌||◌, ◌∙◌, ◌≡◌}
 use Rattle.bd_calls.specs.Stands as calls
-use Rattle.bd_buffers.specs.WindowsStand.{WindowsOf}
-use Rattle.bd_buffers.proofs.WindowLaws.{stands_in}
-use Rattle.bd_step.specs.declared.tables.Tables.{Tables}
-use Rattle.bd_step.specs.Stands.{Before, Within}
+use Rattle.bd_objects.specs.Stands as objects
 
 -- ---- from before a step into it
 

@@ -1,38 +1,7 @@
 -- The steps of BC_TRANSACTION and BC_REPLY, by what was checked.
-use Rattle.std.proofs.Common.{◌≡◌, ℕ, ◌+◌, Bool, true, false, List, Option, Some, None, Result, Ok, Err, refl, ap, sym, subst, ◌∙◌}
-use Rattle.std.specs.Prelude.{◌&&◌, IfSome, option_and_then, option_map, if◌then◌else◌}
-use Rattle.bd_uapi.specs.declared.command.TransactionData.{TransactionData}
-use Rattle.bd_uapi.specs.declared.command.Return.{Return}
-use Rattle.bd_uapi.specs.declared.fault.Cause.{Cause}
-use Rattle.bd_uapi.specs.declared.fault.Cause.TheVariants.{NoManager, DeadOwner, CallerGone}
-use Rattle.bd_uapi.specs.declared.command.Return.TheVariants.{FailedReply, TransactionComplete}
-use Rattle.bd_space.specs.declared.step.Identity.{Identity}
-use Rattle.bd_space.specs.declared.step.Parcel.{Parcel}
-use Rattle.bd_space.specs.declared.space.Process.{Process}
-use Rattle.bd_space.specs.declared.space.Frame.{Frame}
-use Rattle.bd_space.specs.declared.space.WorkKind.{WorkKind}
-use Rattle.bd_space.specs.declared.space.Callee.{Callee}
-use Rattle.bd_space.specs.declared.space.Actor.{Actor}
-use Rattle.bd_space.specs.declared.space.TodoList.TheVariants.{OfThread}
-use Rattle.bd_space.specs.declared.space.WorkKind.TheVariants.{Complete, Refusal, Reply, Verdict}
-use Rattle.bd_space.specs.Words.{ok_or, unless, and_then}
-use Rattle.bd_space.specs.Space.{Space}
-use Rattle.bd_space.specs.Seats.{process_in, actor}
-use Rattle.bd_space.specs.Names.{names_go, has_number_past_limit, assign_numbers}
-use Rattle.bd_space.specs.Todo.{owe, tell_caller}
-use Rattle.bd_space.specs.Frames.{closed, served_innermost}
-use Rattle.bd_space.specs.Parcels.{sending_of, translation}
-use Rattle.bd_space.specs.Windows.{buffers_of}
-use Rattle.bd_space.specs.Spam.{floods, is_spam}
-use Rattle.bd_space.specs.Delivery.{Delivery, placed_for, delivered, with_carried, own_notices, add_buffer, refer, make_objects}
-use Rattle.bd_space.specs.Outcomes.{accepted, stopped}
-use Rattle.bd_space.specs.Transactions.{is_one_way, handle_of, not_own, target_of, owner_of, callee_of, caller_cause, transaction_check, call_out, called, transacted, refusal, transaction_step, transaction_outcome}
-use Rattle.bd_space.specs.Replies.{caller_of, reply_check, replied, reply_refused, reply_outcome, reply_to, reply_step}
-use Rattle.bd_calls.specs.Stacked.{TakesCalls}
-use Rattle.bd_step.specs.declared.tables.Tables.{Tables}
-use Rattle.bd_step.specs.Stands.{StandsAt, Within}
-use Rattle.bd_laws.proofs.Checks.{actor_acts}
-use Rattle.bd_step.proofs.Finding.{found_lives}
+use Rattle.bd_step.proofs.Words.{Actor, Bool, Callee, CallerGone, Cause, Complete, DeadOwner, Delivery, Err, FailedReply, Frame, Identity, IfSome, List, NoManager, None, OfThread, Ok, Option, Parcel, Process, Refusal, Reply, Result, Return, Some, Space, StandsAt, Tables, TakesCalls, TransactionComplete, TransactionData, Verdict, Within, WorkKind, accepted, actor, actor_acts, add_buffer, and_then, ap}
+use Rattle.bd_step.proofs.Words.{assign_numbers, buffers_of, call_out, called, callee_of, caller_cause, caller_of, closed, delivered, false, floods, handle_of, has_number_past_limit, if◌then◌else◌, is_one_way, is_spam, make_objects, names_go, not_own, ok_or, option_and_then, option_map, owe, own_notices, owner_of, placed_for, process_in, refer, refl, refusal, replied, reply_check, reply_outcome}
+use Rattle.bd_step.proofs.{Words.{reply_refused, reply_step, reply_to, sending_of, served_innermost, stopped, subst, sym, target_of, tell_caller, transacted, transaction_check, transaction_outcome, transaction_step, translation, true, unless, with_carried, ℕ, ◌&&◌, ◌+◌, ◌∙◌, ◌≡◌}, Finding.{found_lives}}
 
 -- ---- processes that are found live
 

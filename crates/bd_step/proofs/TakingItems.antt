@@ -1,24 +1,6 @@
 -- A read takes work items one after the other.
-use Rattle.std.proofs.Common.{◌≡◌, ℕ, ◌+◌, ◌-◌, ◌<◌, ◌≤◌, Bool, true, false, not, cond, List, [], ◌∷◌, ◌++◌, drop, length, get_or, map, Option, Some, None, refl, ap, sym, subst, ◌∙◌, append_assoc, length-append, drop-cons, add-one, arith, rules, tests}
-use Rattle.std.specs.Prelude.{nat_lt}
-use Rattle.std.specs.List.{concat, slice_get}
-use Rattle.std.proofs.lemmas.Option.{slice_get_within, get_or_from_slice_get}
-use Rattle.bd_uapi.specs.declared.command.Return.TheVariants.{Noop}
-use Rattle.bd_codec.specs.Spelling.{return_bytes}
-use Rattle.bd_space.specs.declared.space.Work.{Work}
-use Rattle.bd_space.specs.declared.space.Thread.{Thread}
-use Rattle.bd_space.specs.Space.{Space}
-use Rattle.bd_space.specs.Seats.{thread_in}
-use Rattle.bd_space.specs.Todo.{list_to_read, reads_in, is_on}
-use Rattle.bd_space.specs.declared.space.TodoList.TheVariants.{OfThread}
-use Rattle.bd_todo.proofs.OnList.{any_left}
-use Rattle.bd_space.specs.Histories.{is_ready}
-use Rattle.bd_uapi.specs.declared.fault.Fault.{Fault}
-use Rattle.bd_uapi.specs.declared.fault.Fault.TheVariants.{ReadTooSmall, Again}
-use Rattle.bd_space.specs.Words.{first_of, when, is_some_and}
-use Rattle.bd_space.specs.Outcomes.{Outcome, refused}
-use Rattle.bd_space.specs.ReadItems.{taken, ends_read, none_due, read_fault, read_taking}
-use Rattle.bd_space.specs.Returns.{bytes_read, stream_of}
+use Rattle.bd_step.proofs.Words.{Again, Bool, Fault, List, None, Noop, OfThread, Option, Outcome, ReadTooSmall, Some, Space, Thread, Work, [], add-one, any_left, ap, append_assoc, arith, bytes_read, concat, cond, drop, drop-cons, ends_read, false, first_of, get_or, get_or_from_slice_get, is_on, is_ready, is_some_and, length, length-append, list_to_read, map, nat_lt, none_due, not, read_fault}
+use Rattle.bd_step.proofs.Words.{read_taking, reads_in, refl, refused, return_bytes, rules, slice_get, slice_get_within, stream_of, subst, sym, taken, tests, thread_in, true, when, ℕ, ◌++◌, ◌+◌, ◌-◌, ◌<◌, ◌∙◌, ◌∷◌, ◌≡◌, ◌≤◌}
 
 -- ---- tests
 

@@ -1,15 +1,6 @@
 -- How tables go on standing while frames close and callers and senders are told.
-use Rattle.std.proofs.Common.{ℕ, Option, None, Some}
-use Rattle.bd_space.specs.declared.space.Frame.{Frame}
-use Rattle.bd_space.specs.declared.space.WorkKind.{WorkKind}
-use Rattle.bd_space.specs.declared.space.TodoList.TheVariants.{OfThread}
-use Rattle.bd_space.specs.Space.{Space}
-use Rattle.bd_space.specs.Todo.{owe, tell_caller}
-use Rattle.bd_calls.specs.declared.table.CallTable.{CallTable}
+use Rattle.bd_step.proofs.{Words.{CallTable, Frame, None, OfThread, Option, Some, Space, StandsAt, Tables, WorkKind, owe, tell_caller, ℕ}, Changing.{with_calls}}
 use Rattle.bd_calls.specs.Stands as calls
-use Rattle.bd_step.specs.declared.tables.Tables.{Tables}
-use Rattle.bd_step.specs.Stands.{StandsAt}
-use Rattle.bd_step.proofs.Changing.{with_calls}
 
 told : (n : ℕ) (t : Tables) (cs : CallTable) (s : Space) (caller : Option ℕ) (kind : WorkKind) → StandsAt n t s
     → calls.StandsFor cs (elim caller as (λ (o : Option ℕ). Space) [ None ↦ s | Some u ↦ owe s (OfThread u) kind ])

@@ -54,8 +54,7 @@ pub enum Brief {
 
 impl Brief {
     ghost use Rattle.bd_ways.specs.Words.{StepAnswer};
-    ghost use Rattle.bd_step.specs.Plain.{IsBrief};
-    ghost use Rattle.bd_step.specs.declared.answer.Brief.TheVariants.{Got};
+    ghost use Rattle.bd_step.specs.{Plain.{IsBrief}, declared.answer.Brief.TheVariants.{Got}};
 
     /// The answer, where what was read was written to `again` too.
     pub fn answer(self, again: StepAnswer) -> StepAnswer

@@ -1,21 +1,20 @@
 //! Buffers: a delivery's bytes as the receiver sees them, and the step of `BC_FREE_BUFFER`.
 
 ghost use Rattle.std.specs.Prelude.{ℕ, List, ◌≡◌, ◌+◌, ◌≤◌, All, IfOk, IfSome, length, Some};
-ghost use Rattle.bd_space.specs.{Space.{Space}, Seats.{process_in}};
+ghost use Rattle.bd_space.specs.{Space.{Space}, Seats.{process_in}, declared.space.Process.{Process}, Outcomes.{completed}};
+ghost use Rattle.bd_ways.specs.Local.{is_among};
+ghost use Rattle.bd_laws.specs.{Lists.{Pairs}, Objects.{NotLater}};
+ghost use Rattle.bd_buffers.specs.{WindowsStand.{CanAdd, HasBufferRoom}, Buffer.{freed_buffer}};
+ghost use Rattle.bd_step.specs.Stands.{Before, Within, Tells, TellsWithin, CanFollow, MakesWithin, UsesNothing, KeepsTold};
+ghost use Rattle.bd_step.specs.{Following.{AreTouched}, Meets.{IsBy, IsKept, IsStep}};
+ghost use Rattle.bd_step.specs.Deliveries.{IsInside, IsCopy, laid_bytes, Spends};
 ghost use Rattle.bd_space.specs.Windows as room;
 ghost use Rattle.bd_space.specs.Turns as turns;
 ghost use Rattle.bd_space.specs.Delivery as delivery;
 ghost use Rattle.bd_space.specs.Parcels as translations;
-ghost use Rattle.bd_space.specs.declared.space.Process.{Process};
 ghost use Rattle.bd_space.specs.Freeing as freeing;
-ghost use Rattle.bd_space.specs.Outcomes.{completed};
-ghost use Rattle.bd_ways.specs.Local.{is_among};
-ghost use Rattle.bd_laws.specs.{Lists.{Pairs}, Objects.{NotLater}};
 ghost use Rattle.bd_calls.specs.Room as call_rooms;
-ghost use Rattle.bd_buffers.specs.{WindowsStand.{CanAdd, HasBufferRoom}, Buffer.{freed_buffer}};
 ghost use Rattle.bd_step.specs.Freed as freed;
-ghost use Rattle.bd_step.specs.Stands.{Before, Within, Tells, TellsWithin, CanFollow, MakesWithin, UsesNothing, KeepsTold};
-ghost use Rattle.bd_step.specs.{Following.{AreTouched}, Meets.{IsBy, IsKept, IsStep}, Deliveries.{IsInside, IsCopy, laid_bytes, Spends}};
 
 use crate::answer::Plain;
 use crate::step_error::StepError;

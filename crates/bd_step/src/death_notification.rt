@@ -2,21 +2,17 @@
 //! `BC_DEAD_BINDER_DONE`, and what is told of an owner's end.
 
 ghost use Rattle.std.specs.Prelude.{◌≡◌, ◌≤◌, filter, length};
-ghost use Rattle.bd_space.specs.declared.space.Phase.TheVariants.{Queued};
-ghost use Rattle.bd_space.specs.declared.space.TodoList.TheVariants.{OfProcess};
-ghost use Rattle.bd_space.specs.declared.space.WorkKind.TheVariants.{Death};
-ghost use Rattle.bd_space.specs.Todo as todo;
-ghost use Rattle.bd_space.specs.Deaths as deaths;
-ghost use Rattle.bd_space.specs.{Words.{ok_or}, Outcomes.{by_check}};
+ghost use Rattle.bd_space.specs.{declared.space.Phase.TheVariants.{Queued}, declared.space.TodoList.TheVariants.{OfProcess}};
+ghost use Rattle.bd_space.specs.{declared.space.WorkKind.TheVariants.{Death}, Words.{ok_or}, Outcomes.{by_check}, Space.{Space}};
 ghost use Rattle.bd_uapi.specs.declared.fault.Note.TheVariants.{NoneTold};
-ghost use Rattle.bd_space.specs.Space.{Space};
-ghost use Rattle.bd_space.specs.ProcessExits as exits;
 ghost use Rattle.bd_ways.specs.Tables.{MakesWhere};
 ghost use Rattle.bd_deaths.specs.Due.{is_due};
 ghost use Rattle.bd_objects.specs.{Room.{death_room}, New.{IsNewDeath}};
 ghost use Rattle.bd_calls.specs.Room.{work_room};
-ghost use Rattle.bd_step.specs.{Stands.{Uses, Within, MakesWithin, UsesNothing, KeepsTold}, Meets.{IsBy, IsStep}};
-ghost use Rattle.bd_step.specs.Telling.{owed};
+ghost use Rattle.bd_step.specs.{Stands.{Uses, Within, MakesWithin, UsesNothing, KeepsTold}, Meets.{IsBy, IsStep}, Telling.{owed}};
+ghost use Rattle.bd_space.specs.Todo as todo;
+ghost use Rattle.bd_space.specs.Deaths as deaths;
+ghost use Rattle.bd_space.specs.ProcessExits as exits;
 
 use crate::answer::Plain;
 use crate::step_error::StepError;

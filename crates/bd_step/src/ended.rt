@@ -1,12 +1,11 @@
 //! Buffers that a step ends: where they are to be looked for.
 
 ghost use Rattle.std.specs.Prelude.{◌≡◌, [], Option, OnOk, OnErr};
+ghost use Rattle.bd_space.specs.{declared.step.Parcel.{Parcel}, Histories.{History, space_after}};
+ghost use Rattle.bd_step.specs.{Stands.{Before}, Ending.{HasEndings}};
 ghost use Rattle.bd_uapi.specs.declared.command.Command.TheVariants as bc;
 ghost use Rattle.bd_space.specs.declared.step.Step.TheVariants as step_of;
-ghost use Rattle.bd_space.specs.declared.step.Parcel.{Parcel};
-ghost use Rattle.bd_space.specs.Histories.{History, space_after};
 ghost use Rattle.bd_space.specs.Steps as steps;
-ghost use Rattle.bd_step.specs.{Stands.{Before}, Ending.{HasEndings}};
 
 use crate::tables::Tables;
 use bd_space::Step;

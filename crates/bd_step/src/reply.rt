@@ -1,17 +1,16 @@
 //! The step of BC_REPLY.
 
 ghost use Rattle.std.specs.Prelude.{false, ◌≡◌, ◌≤◌, length, Some, IfOk, IfErr, OnOk, OnErr};
-ghost use Rattle.bd_space.specs.declared.space.TodoList.TheVariants.{OfThread};
-ghost use Rattle.bd_space.specs.declared.space.WorkKind.TheVariants as kinds;
-ghost use Rattle.bd_space.specs.Todo as todo;
-ghost use Rattle.bd_space.specs.Frames as frames;
-ghost use Rattle.bd_space.specs.Names.{names_go};
-ghost use Rattle.bd_space.specs.Outcomes as outcomes;
-ghost use Rattle.bd_space.specs.Replies as spec;
+ghost use Rattle.bd_space.specs.{declared.space.TodoList.TheVariants.{OfThread}, Names.{names_go}};
 ghost use Rattle.bd_calls.specs.Room.{work_room};
 ghost use Rattle.bd_step.specs.Stands.{CanFollow, TellsBefore, Makes, PassesLimit, KeepsTold};
 ghost use Rattle.bd_step.specs.Meets.{IsBy, IsServing, IsReplying, IsKept, IsStep};
 ghost use Rattle.bd_step.specs.Deliveries.{IsDeliverable, IsReady, Delivers, Spends};
+ghost use Rattle.bd_space.specs.declared.space.WorkKind.TheVariants as kinds;
+ghost use Rattle.bd_space.specs.Todo as todo;
+ghost use Rattle.bd_space.specs.Frames as frames;
+ghost use Rattle.bd_space.specs.Outcomes as outcomes;
+ghost use Rattle.bd_space.specs.Replies as spec;
 
 use crate::answer::Plain;
 use crate::delivery::Delivery;

@@ -1,10 +1,9 @@
 //! Reports of one-way flooding: who asked for them, and of which calls they are made.
 
 ghost use Rattle.std.specs.Prelude.{◌≡◌, ◌&&◌, Some, Ok};
-ghost use Rattle.bd_space.specs.{Space.{Space}, Seats.{process_in}, Windows.{buffers_of}};
-ghost use Rattle.bd_space.specs.Spam as spec;
-ghost use Rattle.bd_space.specs.declared.space.Process.{Process};
+ghost use Rattle.bd_space.specs.{Space.{Space}, Seats.{process_in}, Windows.{buffers_of}, declared.space.Process.{Process}};
 ghost use Rattle.bd_step.specs.{Stands.{Within, KeepsTold}, Meets.{IsBy, IsStep}};
+ghost use Rattle.bd_space.specs.Spam as spec;
 
 use crate::answer::Plain;
 use crate::tables::Tables;

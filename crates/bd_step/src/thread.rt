@@ -2,18 +2,17 @@
 
 ghost use Rattle.std.specs.Prelude.{ℕ, true, None, ◌≡◌, Ok, IfSome, ◌≤◌, ◌<◌, ◌^◌};
 ghost use Rattle.bd_uapi.specs.Limits.{most_seats};
-ghost use Rattle.bd_space.specs.Seats as seats;
-ghost use Rattle.bd_space.specs.{Steps.{is_pid}, Histories.{ready_below}};
-ghost use Rattle.bd_space.specs.Steps as steps;
-ghost use Rattle.bd_space.specs.Outcomes.{accepted};
-ghost use Rattle.bd_space.specs.ThreadExits as exits;
+ghost use Rattle.bd_space.specs.{Steps.{is_pid}, Histories.{ready_below}, Outcomes.{accepted}};
 ghost use Rattle.bd_ways.specs.Tables.{MakesWhere, Makes as Changes};
-ghost use Rattle.bd_objects.specs.Room as object_rooms;
 ghost use Rattle.bd_objects.specs.Stands.{StandsFor};
 ghost use Rattle.bd_buffers.specs.WindowsStand.{StandsIn};
 ghost use Rattle.bd_calls.specs.Room.{thread_room};
 ghost use Rattle.bd_step.specs.{Stands.{StandsAt, Tells, MakesWithin, UsesNothing, KeepsTold}, Meets.{IsAny, IsBy, IsStep}};
 ghost use Rattle.bd_step.specs.Handed.{without_handed, without_all_handed};
+ghost use Rattle.bd_space.specs.Seats as seats;
+ghost use Rattle.bd_space.specs.Steps as steps;
+ghost use Rattle.bd_space.specs.ThreadExits as exits;
+ghost use Rattle.bd_objects.specs.Room as object_rooms;
 
 use crate::answer::Plain;
 use crate::step_error::StepError;

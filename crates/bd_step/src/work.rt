@@ -1,17 +1,16 @@
 //! What a work item gives to be read: its returns, and their bytes.
 
-ghost use Rattle.std.specs.Prelude.{pos, true, ◌≡◌, ◌+◌, ◌≤◌, ◌++◌, if◌then◌else◌, find, map, length, option_and_then, option_map, unwrap_or, IfSome, OnOk};
-ghost use Rattle.std.specs.List.{flat_map, concat};
-ghost use Rattle.bd_uapi.specs.declared.command.Return.TheVariants as br;
+ghost use Rattle.std.specs.Prelude.{pos, true, ◌≡◌, ◌+◌, ◌≤◌, ◌++◌, if◌then◌else◌, find, map, length, option_and_then};
+ghost use Rattle.std.specs.{Prelude.{option_map, unwrap_or, IfSome, OnOk}, List.{flat_map, concat}};
 ghost use Rattle.bd_codec.specs.Spelling.{return_bytes};
-ghost use Rattle.bd_space.specs.Words.{option_to_list, round_up as rounded};
-ghost use Rattle.bd_space.specs.Seats as seats;
-ghost use Rattle.bd_space.specs.{References.{object_in}, Frames.{is_frame}, Freeing.{pointer}};
-ghost use Rattle.bd_space.specs.Returns as spec;
-ghost use Rattle.bd_space.specs.declared.space.WorkKind.TheVariants as kinds;
-ghost use Rattle.bd_space.specs.Steps.{is_pid};
+ghost use Rattle.bd_space.specs.{Words.{option_to_list, round_up as rounded}, References.{object_in}, Frames.{is_frame}};
+ghost use Rattle.bd_space.specs.{Freeing.{pointer}, Steps.{is_pid}};
 ghost use Rattle.bd_buffers.specs.WindowsStand.{IsInWindow};
 ghost use Rattle.bd_step.specs.Stands.{TellsBefore};
+ghost use Rattle.bd_uapi.specs.declared.command.Return.TheVariants as br;
+ghost use Rattle.bd_space.specs.Seats as seats;
+ghost use Rattle.bd_space.specs.Returns as spec;
+ghost use Rattle.bd_space.specs.declared.space.WorkKind.TheVariants as kinds;
 
 use crate::tables::Tables;
 use bd_buffers::{Lent, pointer_of};

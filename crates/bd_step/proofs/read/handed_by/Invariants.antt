@@ -1,7 +1,4 @@
-use Rattle.std.proofs.Common.{◌≡◌, map, drop}
-use Rattle.bd_space.specs.declared.space.Work.{Work}
-use Rattle.bd_space.specs.Words.{first_of}
-use Rattle.bd_space.specs.Todo.{hands_out}
+use Rattle.bd_step.proofs.Words.{Work, drop, first_of, hands_out, map, ◌≡◌}
 use Rattle.bd_step.proofs.read.handed_by.Given as goal
 
 abbrev pub invariant-loop-work : goal.invariant-loop-work

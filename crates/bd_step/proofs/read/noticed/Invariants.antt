@@ -1,7 +1,4 @@
-use Rattle.std.proofs.Common.{◌≡◌, ◌++◌, drop}
-use Rattle.std.specs.List.{filter_map}
-use Rattle.bd_space.specs.declared.space.Work.{Work}
-use Rattle.bd_space.specs.Todo.{notice_of}
+use Rattle.bd_step.proofs.Words.{Work, drop, filter_map, notice_of, ◌++◌, ◌≡◌}
 use Rattle.bd_step.proofs.read.noticed.Given as goal
 
 abbrev pub invariant-loop-work : goal.invariant-loop-work

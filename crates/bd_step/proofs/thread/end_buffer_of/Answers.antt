@@ -1,7 +1,4 @@
-use Rattle.std.proofs.Common.{◌∙◌, sym, subst}
-use Rattle.bd_objects.specs.Stands.{StandsFor}
-use Rattle.bd_buffers.specs.WindowsStand.{StandsIn}
-use Rattle.bd_step.specs.Handed.{without_any}
+use Rattle.bd_step.proofs.Words.{StandsFor, StandsIn, subst, sym, without_any, ◌∙◌}
 use Rattle.bd_step.proofs.thread.end_buffer_of.Goals as goal
 
 pub returns-in-Some-clause-objects : goal.returns-in-Some-clause-objects

@@ -1,9 +1,4 @@
-use Rattle.std.proofs.Common.{rules, subst, List}
-use Rattle.bd_space.specs.declared.space.Work.{Work}
-use Rattle.bd_objects.specs.Stands.{StandsFor}
-use Rattle.bd_buffers.specs.WindowsStand.{StandsIn}
-use Rattle.bd_step.specs.Handed.{without_all_handed}
-use Rattle.bd_step.proofs.Handed.{going_begins, going_next, going_ends, uses_then}
+use Rattle.bd_step.proofs.{Words.{List, StandsFor, StandsIn, Work, rules, subst, without_all_handed}, Handed.{going_begins, going_next, going_ends, uses_then}}
 use Rattle.bd_step.proofs.thread.end_handed.Goals as goal
 
 pub loop-work-init : goal.loop-work-init

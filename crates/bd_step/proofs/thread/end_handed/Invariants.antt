@@ -1,9 +1,4 @@
-use Rattle.bd_space.specs.Space.{Space}
-use Rattle.bd_objects.specs.Room.{UsesNothing}
-use Rattle.bd_objects.specs.Stands.{StandsFor}
-use Rattle.bd_buffers.specs.WindowsStand.{StandsIn}
-use Rattle.bd_step.specs.Handed.{without_all_handed}
-use Rattle.bd_step.proofs.Handed.{Going}
+use Rattle.bd_step.proofs.{Words.{Space, StandsFor, StandsIn, UsesNothing, without_all_handed}, Handed.{Going}}
 use Rattle.bd_step.proofs.thread.end_handed.Given as goal
 
 abbrev pub invariant-loop-work : goal.invariant-loop-work

@@ -1,13 +1,4 @@
-use Rattle.std.proofs.Common.{◌≡◌, ℕ, Bool, true, false, ◌||◌, List, ◌++◌, take, drop, rules, ◌+◌, get_or, refl, ap, sym, subst, ◌∙◌}
-use Rattle.std.specs.List.{list_any}
-use Rattle.std.proofs.lemmas.List.{take-append-drop}
-use Rattle.bd_space.specs.declared.step.Identity.{Identity}
-use Rattle.std.proofs.Math.Path.{fun_ext}
-use Rattle.std.proofs.lemmas.List.Sorted.{answers_always, list_any-IsPermutation}
-use Rattle.bd_ways.specs.Local.{at_object}
-use Rattle.bd_laws.specs.{Lists.{Pairs}, Objects.{NotLater}}
-use Rattle.bd_laws.proofs.Earlier.{earlier_cmp, sorted_in_order}
-use Rattle.bd_laws.proofs.Freeing.{any_append}
+use Rattle.bd_step.proofs.Words.{Bool, Identity, List, NotLater, Pairs, answers_always, any_append, ap, at_object, drop, earlier_cmp, false, fun_ext, get_or, list_any, list_any-IsPermutation, refl, rules, sorted_in_order, subst, sym, take, take-append-drop, true, ℕ, ◌++◌, ◌+◌, ◌||◌, ◌∙◌, ◌≡◌}
 use Rattle.bd_step.proofs.touched.in_order.Goals as goal
 
 either_way : (a b : Bool) → (a || b) ≡ (b || a)

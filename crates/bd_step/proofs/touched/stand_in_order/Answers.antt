@@ -1,9 +1,4 @@
-use Rattle.std.proofs.Common.{rules, ◌≡◌, List, Bool, true, false, not, refl}
-use Rattle.std.specs.List.{IsAllAdjacentAnswer}
-use Rattle.std.proofs.lemmas.List.Sorted.{answers_always}
-use Rattle.bd_ways.specs.Words.{Identity}
-use Rattle.bd_laws.specs.{Lists.{Pairs}, Objects.{NotLater, is_earlier}}
-use Rattle.bd_laws.proofs.Earlier.{sorted_in_order}
+use Rattle.bd_step.proofs.Words.{Bool, Identity, IsAllAdjacentAnswer, List, NotLater, Pairs, answers_always, false, is_earlier, not, refl, rules, sorted_in_order, true, ◌≡◌}
 use Rattle.bd_step.proofs.touched.stand_in_order.Goals as goal
 
 unlike : (b : Bool) → true ≡ not b → b ≡ false

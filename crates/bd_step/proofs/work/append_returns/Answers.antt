@@ -1,5 +1,4 @@
-use Rattle.std.proofs.Common.{None}
-use Rattle.bd_step.proofs.Spelt.{bytes_more}
+use Rattle.bd_step.proofs.{Words.{None}, Spelt.{bytes_more}}
 use Rattle.bd_step.proofs.work.append_returns.Goals as goal
 
 pub loop-r-preserved : goal.loop-r-preserved

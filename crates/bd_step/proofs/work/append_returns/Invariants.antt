@@ -1,7 +1,4 @@
-use Rattle.std.proofs.Common.{◌≡◌, ◌++◌, map, take}
-use Rattle.std.specs.List.{flat_map, concat}
-use Rattle.bd_codec.specs.Spelling.{return_bytes}
-use Rattle.bd_space.specs.Words.{option_to_list}
+use Rattle.bd_step.proofs.Words.{concat, flat_map, map, option_to_list, return_bytes, take, ◌++◌, ◌≡◌}
 use Rattle.bd_step.proofs.work.append_returns.Given as goal
 
 abbrev pub invariant-loop-r : goal.invariant-loop-r

@@ -1,6 +1,4 @@
-use Rattle.bd_space.specs.Asking.{done_check, acknowledge}
-use Rattle.bd_step.proofs.Accepting.{checked_notes, checked_accepts}
-use Rattle.bd_step.proofs.Meeting.{taken_step}
+use Rattle.bd_step.proofs.{Words.{acknowledge, done_check}, Accepting.{checked_notes, checked_accepts}, Meeting.{taken_step}}
 use Rattle.bd_step.proofs.tables.Tables.acknowledge.Goals as goal
 
 pub returns-in-Err-clause-step : goal.returns-in-Err-clause-step

@@ -1,11 +1,4 @@
-use Rattle.std.proofs.Common.{ℕ, ◌+◌, Bool, sym, subst}
-use Rattle.std.specs.Prelude.{if◌then◌else◌}
-use Rattle.bd_space.specs.declared.space.DeathNotification.{DeathNotification}
-use Rattle.bd_space.specs.declared.space.Phase.TheVariants.{Done}
-use Rattle.bd_space.specs.Space.{Space}
-use Rattle.bd_space.specs.Deaths.{death_done, death_ended, with_phase}
-use Rattle.bd_step.specs.Stands.{Within}
-use Rattle.bd_step.proofs.Changing.{with_objects}
+use Rattle.bd_step.proofs.{Words.{Bool, DeathNotification, Done, Space, Within, death_done, death_ended, if◌then◌else◌, subst, sym, with_phase, ℕ, ◌+◌}, Changing.{with_objects}}
 use Rattle.bd_step.proofs.tables.Tables.acknowledge_death.Goals as goal
 
 -- the owner's end is known, by whether the notification was marked

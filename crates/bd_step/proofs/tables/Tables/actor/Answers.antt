@@ -1,6 +1,4 @@
-use Rattle.std.proofs.Common.{ap, sym, ◌∙◌}
-use Rattle.std.specs.Prelude.{option_and_then}
-use Rattle.bd_space.specs.Seats.{actor, actor_of}
+use Rattle.bd_step.proofs.Words.{actor, actor_of, ap, option_and_then, sym, ◌∙◌}
 use Rattle.bd_step.proofs.tables.Tables.actor.Goals as goal
 
 pub returns-in-Some-clause-found : goal.returns-in-Some-clause-found

@@ -1,8 +1,4 @@
-use Rattle.std.proofs.Common.{ap, sym, ◌∙◌}
-use Rattle.std.specs.Prelude.{option_map}
-use Rattle.bd_space.specs.declared.space.Process.{Process}
-use Rattle.bd_space.specs.declared.space.Thread.{Thread}
-use Rattle.bd_space.specs.declared.space.Actor.{Actor}
+use Rattle.bd_step.proofs.Words.{Actor, Process, Thread, ap, option_map, sym, ◌∙◌}
 use Rattle.bd_step.proofs.tables.Tables.actor_of.Goals as goal
 
 abbrev with_process : Thread → Process → Actor

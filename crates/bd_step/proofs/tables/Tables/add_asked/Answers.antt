@@ -1,13 +1,4 @@
-use Rattle.std.proofs.Common.{◌+◌, ◌∙◌, ap, sym, subst}
-use Rattle.bd_space.specs.Asking.{ask}
-use Rattle.bd_space.specs.Names.{assign_numbers}
-use Rattle.bd_ways.specs.Local.{follow_of, no_name}
-use Rattle.bd_laws.proofs.Others.{ask_local}
-use Rattle.bd_step.specs.Stands.{Within}
-use Rattle.bd_step.proofs.Standing.{numbers_completed}
-use Rattle.bd_step.proofs.Changing.{with_objects}
-use Rattle.bd_step.proofs.New.{asks_for}
-use Rattle.bd_step.proofs.FollowingObjects.{among_one}
+use Rattle.bd_step.proofs.{Words.{Within, ap, ask, ask_local, assign_numbers, follow_of, no_name, subst, sym, ◌+◌, ◌∙◌}, Changing.{with_objects}, FollowingObjects.{among_one}, New.{asks_for}, Standing.{numbers_completed}}
 use Rattle.bd_step.proofs.tables.Tables.add_asked.Goals as goal
 
 pub returns-in-Ok-clause-stands : goal.returns-in-Ok-clause-stands

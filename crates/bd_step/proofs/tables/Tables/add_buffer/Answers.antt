@@ -1,6 +1,4 @@
-use Rattle.std.proofs.Common.{◌<◌, All, subst}
-use Rattle.bd_space.specs.declared.space.Buffer.{Buffer}
-use Rattle.bd_space.specs.Delivery.{add_buffer}
+use Rattle.bd_step.proofs.Words.{All, Buffer, add_buffer, subst, ◌<◌}
 use Rattle.bd_step.proofs.tables.Tables.add_buffer.Goals as goal
 
 pub returns-clause-stands : goal.returns-clause-stands

@@ -1,6 +1,4 @@
-use Rattle.std.proofs.Common.{◌+◌}
-use Rattle.bd_space.specs.Deaths.{with_death}
-use Rattle.bd_step.proofs.Changing.{with_objects}
+use Rattle.bd_step.proofs.{Words.{with_death, ◌+◌}, Changing.{with_objects}}
 use Rattle.bd_step.proofs.tables.Tables.add_death.Goals as goal
 
 pub returns-clause-stands : goal.returns-clause-stands

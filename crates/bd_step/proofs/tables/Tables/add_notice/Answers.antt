@@ -1,17 +1,4 @@
-use Rattle.std.proofs.Common.{List, ap, sym, subst, ◌∙◌, true}
-use Rattle.std.specs.Option.{is_some}
-use Rattle.bd_space.specs.declared.space.Object.{Object}
-use Rattle.bd_space.specs.declared.space.Work.{Work}
-use Rattle.bd_space.specs.Words.{same}
-use Rattle.bd_space.specs.Space.{Space}
-use Rattle.bd_space.specs.References.{object_in}
-use Rattle.bd_space.specs.Notices.{wants_notice}
-use Rattle.bd_laws.proofs.Lists.{find_in}
-use Rattle.bd_laws.proofs.Tests.{same_eq}
-use Rattle.bd_step.specs.Stands.{StandsAt}
-use Rattle.bd_step.proofs.Changing.{with_calls}
-use Rattle.bd_step.proofs.Deliveries.{wanted_object, notice_added}
-use Rattle.bd_step.proofs.FollowingObjects.{owner_wanted}
+use Rattle.bd_step.proofs.{Words.{List, Object, Space, StandsAt, Work, ap, find_in, is_some, object_in, same, same_eq, subst, sym, true, wants_notice, ◌∙◌}, Changing.{with_calls}, Deliveries.{wanted_object, notice_added}, FollowingObjects.{owner_wanted}}
 use Rattle.bd_step.proofs.tables.Tables.add_notice.Goals as goal
 
 pub returns-then-is_some-clause-stands : goal.returns-then-is_some-clause-stands

@@ -1,9 +1,4 @@
-use Rattle.std.proofs.Common.{ℕ, take}
-use Rattle.std.specs.List.{fold}
-use Rattle.bd_space.specs.Space.{Space}
-use Rattle.bd_space.specs.Delivery.{add_notice}
-use Rattle.bd_step.specs.Stands.{StandsAt, KeepsTold}
-use Rattle.bd_step.specs.Deliveries.{OnlyWorks}
+use Rattle.bd_step.proofs.Words.{KeepsTold, OnlyWorks, Space, StandsAt, add_notice, fold, take, ℕ}
 use Rattle.bd_step.proofs.tables.Tables.add_notices.Given as goal
 
 abbrev pub invariant-loop-x : goal.invariant-loop-x

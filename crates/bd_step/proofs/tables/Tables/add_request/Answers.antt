@@ -1,13 +1,4 @@
-use Rattle.std.proofs.Common.{ℕ, Bool, subst}
-use Rattle.std.specs.Prelude.{if◌then◌else◌}
-use Rattle.bd_space.specs.declared.space.Phase.TheVariants.{Armed, Queued}
-use Rattle.bd_space.specs.declared.space.TodoList.TheVariants.{OfProcess}
-use Rattle.bd_space.specs.declared.space.WorkKind.TheVariants.{Death}
-use Rattle.bd_space.specs.declared.step.Identity.{Identity}
-use Rattle.bd_space.specs.Space.{Space}
-use Rattle.bd_space.specs.Todo.{owe}
-use Rattle.bd_space.specs.Deaths.{requested, with_death}
-use Rattle.bd_step.specs.Stands.{Within}
+use Rattle.bd_step.proofs.Words.{Armed, Bool, Death, Identity, OfProcess, Queued, Space, Within, if◌then◌else◌, owe, requested, subst, with_death, ℕ}
 use Rattle.bd_step.proofs.tables.Tables.add_request.Goals as goal
 
 -- the notification that comes in, by whether the owner lives

@@ -1,5 +1,4 @@
-use Rattle.bd_space.specs.Steps.{with_thread}
-use Rattle.bd_step.proofs.Changing.{with_calls}
+use Rattle.bd_step.proofs.{Words.{with_thread}, Changing.{with_calls}}
 use Rattle.bd_step.proofs.tables.Tables.add_thread.Goals as goal
 
 pub returns-clause-stands : goal.returns-clause-stands

@@ -1,10 +1,4 @@
-use Rattle.std.proofs.Common.{sym, subst}
-use Rattle.bd_space.specs.declared.space.Phase.TheVariants.{Queued}
-use Rattle.bd_space.specs.declared.space.TodoList.TheVariants.{OfProcess}
-use Rattle.bd_space.specs.declared.space.WorkKind.TheVariants.{Death}
-use Rattle.bd_space.specs.Todo.{owe}
-use Rattle.bd_space.specs.Deaths.{with_death}
-use Rattle.bd_step.specs.Stands.{Within}
+use Rattle.bd_step.proofs.Words.{Death, OfProcess, Queued, Within, owe, subst, sym, with_death}
 use Rattle.bd_step.proofs.tables.Tables.add_told_death.Goals as goal
 
 pub returns-clause-stands : goal.returns-clause-stands

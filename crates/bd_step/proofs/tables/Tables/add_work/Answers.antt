@@ -1,6 +1,4 @@
-use Rattle.std.proofs.Common.{◌+◌}
-use Rattle.bd_space.specs.Todo.{owe}
-use Rattle.bd_step.proofs.Changing.{with_calls}
+use Rattle.bd_step.proofs.{Words.{owe, ◌+◌}, Changing.{with_calls}}
 use Rattle.bd_step.proofs.tables.Tables.add_work.Goals as goal
 
 pub returns-clause-stands : goal.returns-clause-stands

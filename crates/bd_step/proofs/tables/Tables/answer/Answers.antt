@@ -1,12 +1,4 @@
-use Rattle.std.proofs.Common.{ℕ, length, ap, sym, subst, ◌∙◌, refl}
-use Rattle.bd_space.specs.Space.{Space}
-use Rattle.bd_space.specs.Replies.{replied}
-use Rattle.bd_ways.specs.Local.{ObjectTest, follow_of, close_up, no_name, is_among}
-use Rattle.bd_step.specs.{Stands.{Within}, Known.{are_known_before}}
-use Rattle.bd_step.proofs.Standing.{numbers_completed}
-use Rattle.bd_step.proofs.Refusals.{full_if}
-use Rattle.bd_step.proofs.Afterwards.{replied_sends, replied_followed, replied_ordered}
-use Rattle.bd_step.proofs.Meeting.{taken_step}
+use Rattle.bd_step.proofs.{Words.{ObjectTest, Space, Within, ap, are_known_before, close_up, follow_of, is_among, length, no_name, refl, replied, subst, sym, ℕ, ◌∙◌}, Afterwards.{replied_sends, replied_followed, replied_ordered}, Meeting.{taken_step}, Refusals.{full_if}, Standing.{numbers_completed}}
 use Rattle.bd_step.proofs.tables.Tables.answer.Goals as goal
 
 pub returns-in-Err-clause-step : goal.returns-in-Err-clause-step

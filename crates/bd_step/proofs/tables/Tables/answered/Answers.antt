@@ -1,9 +1,4 @@
-use Rattle.std.proofs.Common.{ℕ, false, subst, sym}
-use Rattle.bd_space.specs.declared.space.TodoList.TheVariants.{OfThread}
-use Rattle.bd_space.specs.declared.space.WorkKind.TheVariants.{Complete, Reply}
-use Rattle.bd_space.specs.Todo.{owe, tell_caller}
-use Rattle.bd_space.specs.Frames.{closed}
-use Rattle.bd_step.specs.Stands.{StandsAt}
+use Rattle.bd_step.proofs.Words.{Complete, OfThread, Reply, StandsAt, closed, false, owe, subst, sym, tell_caller, ℕ}
 use Rattle.bd_step.proofs.tables.Tables.answered.Goals as goal
 
 pub returns-clause-stands : goal.returns-clause-stands

@@ -1,5 +1,4 @@
-use Rattle.std.proofs.Common.{Result, Ok, Err, OnOk}
-use Rattle.bd_space.specs.Returns.{returns_of}
+use Rattle.bd_step.proofs.Words.{Err, Ok, OnOk, Result, returns_of}
 use Rattle.bd_step.proofs.tables.Tables.append_work.Goals as goal
 
 on_ok : {T E P Q : Type 0} (r : Result T E) → (P → Q) → OnOk r P → OnOk r Q

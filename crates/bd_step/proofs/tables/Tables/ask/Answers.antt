@@ -1,10 +1,4 @@
-use Rattle.std.proofs.Common.{◌≡◌, true, ap, sym, subst}
-use Rattle.bd_space.specs.Outcomes.{Outcome, by_check}
-use Rattle.bd_space.specs.Names.{has_number_past_limit}
-use Rattle.bd_space.specs.Asking.{ask_check, ask}
-use Rattle.bd_step.proofs.Accepting.{checked_notes, checked_accepts}
-use Rattle.bd_step.proofs.Refusals.{full_if}
-use Rattle.bd_step.proofs.Meeting.{taken_step}
+use Rattle.bd_step.proofs.{Words.{Outcome, ap, ask, ask_check, by_check, has_number_past_limit, subst, sym, true, ◌≡◌}, Accepting.{checked_notes, checked_accepts}, Meeting.{taken_step}, Refusals.{full_if}}
 use Rattle.bd_step.proofs.tables.Tables.ask.Goals as goal
 
 pub returns-in-Err-clause-step : goal.returns-in-Err-clause-step

@@ -1,12 +1,5 @@
-use Rattle.std.proofs.Common.{◌+◌, false, Option, refl, ap, sym, ◌∙◌}
-use Rattle.std.specs.Prelude.{is_some}
-use Rattle.bd_uapi.specs.declared.fault.Fault.TheVariants.{HasProcess, NoSuchPid}
-use Rattle.bd_space.specs.declared.space.Process.{Process}
-use Rattle.bd_space.specs.Seats.{thread_in, process_with_pid}
-use Rattle.bd_space.specs.Steps.{attach_step, attach_outcome, with_thread}
-use Rattle.bd_step.proofs.New.{is_none}
-use Rattle.bd_step.proofs.Standing.{within}
-use Rattle.bd_step.proofs.Meeting.{taken_step, meets, in_case, is_refused}
+use Rattle.bd_step.proofs.{Words.{NoSuchPid, Option, Process, ap, attach_outcome, attach_step, false, is_some, process_with_pid, refl, sym, thread_in, with_thread, ◌+◌, ◌∙◌}, Meeting.{taken_step, meets, in_case, is_refused}, New.{is_none}, Standing.{within}}
+use Rattle.bd_uapi.specs.declared.fault.Fault.TheVariants.{HasProcess}
 use Rattle.bd_step.proofs.tables.Tables.attach.Goals as goal
 
 pub returns-then-is_some-clause-step : goal.returns-then-is_some-clause-step

@@ -1,5 +1,4 @@
-use Rattle.std.proofs.Common.{subst, ◌∙◌}
-use Rattle.bd_step.specs.Exits.{HasProcess}
+use Rattle.bd_step.proofs.Words.{HasProcess, subst, ◌∙◌}
 use Rattle.bd_step.proofs.tables.Tables.begin_exit.Goals as goal
 
 pub returns-clause-has : goal.returns-clause-has

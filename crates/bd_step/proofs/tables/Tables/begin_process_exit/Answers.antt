@@ -1,10 +1,4 @@
-use Rattle.std.proofs.Common.{refl}
-use Rattle.std.proofs.lemmas.Result.{IfOk-weaker}
-use Rattle.bd_space.specs.Space.{Space}
-use Rattle.bd_step.specs.declared.exit.Exit.{Exit}
-use Rattle.bd_step.specs.Stands.{Before}
-use Rattle.bd_step.specs.Exits.{Grows, HasProcess}
-use Rattle.bd_step.proofs.Gathering.{process_gathered, more_process}
+use Rattle.bd_step.proofs.{Words.{Before, Exit, Grows, HasProcess, IfOk-weaker, Space, refl}, Gathering.{process_gathered, more_process}}
 use Rattle.bd_step.proofs.tables.Tables.begin_process_exit.Goals as goal
 
 pub returns-clause-has : goal.returns-clause-has

@@ -1,9 +1,4 @@
-use Rattle.bd_space.specs.Space.{Space}
-use Rattle.std.proofs.lemmas.Result.{IfOk-weaker}
-use Rattle.bd_step.specs.declared.exit.Exit.{Exit}
-use Rattle.bd_step.specs.Stands.{Before}
-use Rattle.bd_step.specs.Exits.{Grows, HasThread}
-use Rattle.bd_step.proofs.Gathering.{more_thread}
+use Rattle.bd_step.proofs.{Words.{Before, Exit, Grows, HasThread, IfOk-weaker, Space}, Gathering.{more_thread}}
 use Rattle.bd_step.proofs.tables.Tables.begin_thread_exit.Goals as goal
 
 pub returns-clause-has : goal.returns-clause-has

@@ -1,10 +1,4 @@
-use Rattle.std.proofs.Common.{◌≡◌, ◌∙◌, ap, sym, subst, refl, List, All, length, arith}
-use Rattle.bd_space.specs.declared.space.Item.{Item}
-use Rattle.bd_space.specs.Parcels.{translation}
-use Rattle.bd_space.specs.Windows.{needed}
-use Rattle.bd_space.specs.Delivery.{Delivery}
-use Rattle.bd_step.specs.Deliveries.{IsCopy, IsInside, laid_bytes}
-use Rattle.bd_step.proofs.Deliveries.{buffer_is, copy_inside}
+use Rattle.bd_step.proofs.{Words.{All, Delivery, IsCopy, IsInside, Item, List, ap, arith, laid_bytes, length, needed, refl, subst, sym, translation, ◌∙◌, ◌≡◌}, Deliveries.{buffer_is, copy_inside}}
 use Rattle.bd_step.proofs.tables.Tables.buffer_of.Goals as goal
 
 pub put_right-own-requires : goal.put_right-own-requires

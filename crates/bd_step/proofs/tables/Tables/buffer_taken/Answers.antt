@@ -1,7 +1,4 @@
-use Rattle.std.proofs.Common.{ap, sym, ◌∙◌}
-use Rattle.std.specs.Prelude.{option_and_then}
-use Rattle.bd_space.specs.Returns.{buffer_in}
-use Rattle.bd_space.specs.ReadItems.{buffer_taken}
+use Rattle.bd_step.proofs.Words.{ap, buffer_in, buffer_taken, option_and_then, sym, ◌∙◌}
 use Rattle.bd_step.proofs.tables.Tables.buffer_taken.Goals as goal
 
 pub returns-in-Some : goal.returns-in-Some

@@ -1,6 +1,4 @@
-use Rattle.bd_space.specs.Todo.{owe}
-use Rattle.bd_space.specs.Transactions.{call_out}
-use Rattle.bd_step.proofs.Changing.{with_calls}
+use Rattle.bd_step.proofs.{Words.{call_out, owe}, Changing.{with_calls}}
 use Rattle.bd_step.proofs.tables.Tables.call_out.Goals as goal
 
 pub returns-clause-stands : goal.returns-clause-stands

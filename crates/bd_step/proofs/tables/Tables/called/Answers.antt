@@ -1,9 +1,4 @@
-use Rattle.std.proofs.Common.{Bool, subst, sym}
-use Rattle.bd_space.specs.declared.space.TodoList.TheVariants.{OfThread}
-use Rattle.bd_space.specs.declared.space.WorkKind.TheVariants.{Complete}
-use Rattle.bd_space.specs.Todo.{owe}
-use Rattle.bd_space.specs.Transactions.{called}
-use Rattle.bd_step.specs.Stands.{StandsAt}
+use Rattle.bd_step.proofs.Words.{Bool, Complete, OfThread, StandsAt, called, owe, subst, sym}
 use Rattle.bd_step.proofs.tables.Tables.called.Goals as goal
 
 pub returns-then-not-one_way-clause-stands : goal.returns-then-not-one_way-clause-stands

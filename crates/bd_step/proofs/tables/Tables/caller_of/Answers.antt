@@ -1,5 +1,4 @@
-use Rattle.std.proofs.Common.{◌∙◌, Some, None}
-use Rattle.bd_step.proofs.Stepping.{actor_lives, caller_is}
+use Rattle.bd_step.proofs.{Words.{None, Some, ◌∙◌}, Stepping.{actor_lives, caller_is}}
 use Rattle.bd_step.proofs.tables.Tables.caller_of.Goals as goal
 
 pub returns-in-None-clause-caller : goal.returns-in-None-clause-caller

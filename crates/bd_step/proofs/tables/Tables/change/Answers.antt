@@ -1,8 +1,4 @@
-use Rattle.std.proofs.Common.{refl, sym, ◌∙◌}
-use Rattle.bd_space.specs.Steps.{change}
-use Rattle.bd_step.specs.Meets.{IsAny, IsNobody, IsBy}
-use Rattle.bd_step.proofs.Meeting.{as_step, as_step_written, written_step}
-use Rattle.bd_step.proofs.Seating.{acting_seat}
+use Rattle.bd_step.proofs.{Words.{IsAny, IsBy, IsNobody, change, refl, sym, ◌∙◌}, Meeting.{as_step, as_step_written, written_step}, Seating.{acting_seat}}
 use Rattle.bd_step.proofs.tables.Tables.change.Goals as goal
 
 pub returns-in-Some-clause-step : goal.returns-in-Some-clause-step

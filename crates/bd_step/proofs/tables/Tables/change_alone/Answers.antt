@@ -1,10 +1,4 @@
-use Rattle.std.proofs.Common.{ap}
-use Rattle.bd_space.specs.Steps.{change, open_step, attach_step}
-use Rattle.bd_step.specs.Meets.{IsAny, IsNobody}
-use Rattle.bd_uapi.specs.declared.fault.Fault.TheVariants.{NoProcess}
-use Rattle.bd_space.specs.Outcomes.{Outcome}
-use Rattle.bd_step.proofs.Meeting.{taken_step, as_step, meets, in_case, is_refused}
-use Rattle.bd_step.proofs.Seating.{nobody_changes}
+use Rattle.bd_step.proofs.{Words.{IsAny, IsNobody, NoProcess, Outcome, ap, attach_step, change, open_step}, Meeting.{taken_step, as_step, meets, in_case, is_refused}, Seating.{nobody_changes}}
 use Rattle.bd_step.proofs.tables.Tables.change_alone.Goals as goal
 
 pub returns-in-Open-clause-step : goal.returns-in-Open-clause-step

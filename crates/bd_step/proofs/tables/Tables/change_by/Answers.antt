@@ -1,9 +1,4 @@
-use Rattle.std.proofs.Common.{ap}
-use Rattle.bd_space.specs.Space.{Space}
-use Rattle.bd_space.specs.Steps.{change, command_step}
-use Rattle.bd_space.specs.ReadItems.{read_step}
-use Rattle.bd_step.specs.Meets.{IsBy}
-use Rattle.bd_step.proofs.Meeting.{as_step_written, by_same, by_step, is_rare, written_step}
+use Rattle.bd_step.proofs.{Words.{IsBy, Space, ap, change, command_step, read_step}, Meeting.{as_step_written, by_same, by_step, is_rare, written_step}}
 use Rattle.bd_step.proofs.tables.Tables.change_by.Goals as goal
 
 pub returns-in-Command-clause-step : goal.returns-in-Command-clause-step

@@ -1,9 +1,4 @@
-use Rattle.std.proofs.Common.{ap}
-use Rattle.bd_space.specs.Steps.{change, open_step, attach_step, manager_step}
-use Rattle.bd_space.specs.Spam.{spam_step}
-use Rattle.bd_space.specs.ThreadExits.{exit_thread_step}
-use Rattle.bd_space.specs.ProcessExits.{exit_process_step}
-use Rattle.bd_step.proofs.Meeting.{any_step, by_step}
+use Rattle.bd_step.proofs.{Words.{ap, attach_step, change, exit_process_step, exit_thread_step, manager_step, open_step, spam_step}, Meeting.{any_step, by_step}}
 use Rattle.bd_step.proofs.tables.Tables.change_rarely.Goals as goal
 
 pub returns-in-Open-clause-step : goal.returns-in-Open-clause-step

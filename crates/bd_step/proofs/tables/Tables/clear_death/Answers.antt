@@ -1,9 +1,4 @@
-use Rattle.std.proofs.Common.{sym}
-use Rattle.bd_space.specs.Deaths.{clear_check, cleared}
-use Rattle.bd_laws.proofs.Clearing.{cleared_local}
-use Rattle.bd_step.proofs.Clearing.{cleared_there}
-use Rattle.bd_step.proofs.Accepting.{checked_notes, checked_accepts_alone}
-use Rattle.bd_step.proofs.Meeting.{taken_step}
+use Rattle.bd_step.proofs.{Words.{clear_check, cleared, cleared_local, sym}, Accepting.{checked_notes, checked_accepts_alone}, Clearing.{cleared_there}, Meeting.{taken_step}}
 use Rattle.bd_step.proofs.tables.Tables.clear_death.Goals as goal
 
 pub returns-in-Err-clause-step : goal.returns-in-Err-clause-step

@@ -1,10 +1,4 @@
-use Rattle.std.proofs.Common.{ℕ, ◌+◌, Bool, subst}
-use Rattle.std.specs.Prelude.{if◌then◌else◌}
-use Rattle.bd_space.specs.declared.space.DeathNotification.{DeathNotification}
-use Rattle.bd_space.specs.Space.{Space}
-use Rattle.bd_space.specs.Deaths.{cleared, mark_cleared, death_ended}
-use Rattle.bd_step.specs.Stands.{Within}
-use Rattle.bd_step.proofs.Changing.{with_objects}
+use Rattle.bd_step.proofs.{Words.{Bool, DeathNotification, Space, Within, cleared, death_ended, if◌then◌else◌, mark_cleared, subst, ℕ, ◌+◌}, Changing.{with_objects}}
 use Rattle.bd_step.proofs.tables.Tables.clear_request.Goals as goal
 
 -- the notification is cleared, by whether it is queued or told

@@ -1,5 +1,4 @@
-use Rattle.bd_space.specs.Frames.{closed}
-use Rattle.bd_step.proofs.Changing.{with_calls}
+use Rattle.bd_step.proofs.{Words.{closed}, Changing.{with_calls}}
 use Rattle.bd_step.proofs.tables.Tables.close.Goals as goal
 
 pub returns-clause-stands : goal.returns-clause-stands

@@ -1,5 +1,4 @@
-use Rattle.bd_calls.specs.Closing.{is_place_among}
-use Rattle.bd_step.proofs.Standing.{closed_among_stands}
+use Rattle.bd_step.proofs.{Words.{is_place_among}, Standing.{closed_among_stands}}
 use Rattle.bd_step.proofs.tables.Tables.close_among.Goals as goal
 
 pub returns-clause-stands : goal.returns-clause-stands

@@ -1,4 +1,4 @@
-use Rattle.bd_space.specs.Steps.{command_step}
+use Rattle.bd_step.proofs.Words.{command_step}
 use Rattle.bd_step.proofs.tables.Tables.command.Goals as goal
 
 pub returns-in-IncrefsDone-clause-step : goal.returns-in-IncrefsDone-clause-step

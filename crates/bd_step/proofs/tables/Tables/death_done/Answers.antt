@@ -1,9 +1,4 @@
-use Rattle.std.proofs.Common.{sym, ap}
-use Rattle.bd_space.specs.{Words.{ok_or}, Outcomes.{by_check}, Deaths.{death_done}}
-use Rattle.bd_uapi.specs.declared.fault.Note.TheVariants.{NoneTold}
-use Rattle.bd_laws.proofs.Clearing.{done_local}
-use Rattle.bd_step.proofs.Accepting.{accepts_alone, notes}
-use Rattle.bd_step.proofs.Meeting.{taken_step}
+use Rattle.bd_step.proofs.{Words.{NoneTold, ap, by_check, death_done, done_local, ok_or, sym}, Accepting.{accepts_alone, notes}, Meeting.{taken_step}}
 use Rattle.bd_step.proofs.tables.Tables.death_done.Goals as goal
 
 pub returns-in-None-clause-step : goal.returns-in-None-clause-step

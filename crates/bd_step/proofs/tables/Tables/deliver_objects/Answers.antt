@@ -1,11 +1,4 @@
-use Rattle.bd_space.specs.Space.{Space}
-use Rattle.bd_space.specs.Names.{names_go, has_number_past_limit}
-use Rattle.bd_space.specs.Delivery.{with_carried}
-use Rattle.std.proofs.Common.{◌≡◌, true}
-use Rattle.std.proofs.lemmas.Result.{on_ok_weaker, on_err_weaker}
-use Rattle.bd_step.specs.Stands.{Before}
-use Rattle.bd_step.specs.Deliveries.{CanSend}
-use Rattle.bd_step.proofs.Deliveries.{known_delivers, known_stands, known_full}
+use Rattle.bd_step.proofs.{Words.{Before, CanSend, Space, has_number_past_limit, names_go, on_err_weaker, on_ok_weaker, true, with_carried, ◌≡◌}, Deliveries.{known_delivers, known_stands, known_full}}
 use Rattle.bd_step.proofs.tables.Tables.deliver_objects.Goals as goal
 
 pub returns-clause-ok : goal.returns-clause-ok

@@ -1,4 +1,4 @@
-use Rattle.bd_space.specs.Delivery.{delivered, with_carried}
+use Rattle.bd_step.proofs.Words.{delivered, with_carried}
 use Rattle.bd_step.proofs.tables.Tables.delivered.Goals as goal
 
 pub returns-in-Ok-clause-ok : goal.returns-in-Ok-clause-ok

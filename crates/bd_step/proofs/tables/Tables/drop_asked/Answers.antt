@@ -1,6 +1,4 @@
-use Rattle.bd_space.specs.Asking.{drop_check, drop_asked}
-use Rattle.bd_step.proofs.Accepting.{checked_notes, checked_accepts}
-use Rattle.bd_step.proofs.Meeting.{taken_step}
+use Rattle.bd_step.proofs.{Words.{drop_asked, drop_check}, Accepting.{checked_notes, checked_accepts}, Meeting.{taken_step}}
 use Rattle.bd_step.proofs.tables.Tables.drop_asked.Goals as goal
 
 pub returns-in-Err-clause-step : goal.returns-in-Err-clause-step

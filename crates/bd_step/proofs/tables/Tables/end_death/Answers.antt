@@ -1,6 +1,4 @@
-use Rattle.std.proofs.Common.{◌+◌}
-use Rattle.bd_space.specs.Deaths.{without_death, death_ended}
-use Rattle.bd_step.proofs.Changing.{with_objects}
+use Rattle.bd_step.proofs.{Words.{death_ended, without_death, ◌+◌}, Changing.{with_objects}}
 use Rattle.bd_step.proofs.tables.Tables.end_death.Goals as goal
 
 pub returns-clause-stands : goal.returns-clause-stands

@@ -1,9 +1,4 @@
-use Rattle.std.proofs.Common.{subst, ◌∙◌}
-use Rattle.std.specs.List.{fold}
-use Rattle.bd_space.specs.ProcessExits.{threads_go}
-use Rattle.bd_space.specs.ThreadExits.{thread_goes}
-use Rattle.bd_step.specs.Stands.{Within}
-use Rattle.bd_step.proofs.Owing.{still_due}
+use Rattle.bd_step.proofs.{Words.{Within, fold, subst, thread_goes, threads_go, ◌∙◌}, Owing.{still_due}}
 use Rattle.bd_step.proofs.tables.Tables.end_process.Goals as goal
 
 pub returns-clause-stands : goal.returns-clause-stands

@@ -1,8 +1,4 @@
-use Rattle.std.proofs.Common.{refl, ◌∙◌}
-use Rattle.bd_space.specs.ProcessExits.{exit_process_step}
-use Rattle.bd_step.proofs.Standing.{within}
-use Rattle.bd_step.proofs.Meeting.{taken_step, meets}
-use Rattle.bd_step.proofs.Exiting.{process_ends}
+use Rattle.bd_step.proofs.{Words.{exit_process_step, refl, ◌∙◌}, Exiting.{process_ends}, Meeting.{taken_step, meets}, Standing.{within}}
 use Rattle.bd_step.proofs.tables.Tables.exit_process.Goals as goal
 
 pub returns-clause-step : goal.returns-clause-step

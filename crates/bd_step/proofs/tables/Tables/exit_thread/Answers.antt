@@ -1,8 +1,4 @@
-use Rattle.std.proofs.Common.{refl, ◌∙◌}
-use Rattle.bd_space.specs.ThreadExits.{exit_thread_step}
-use Rattle.bd_step.proofs.Standing.{within}
-use Rattle.bd_step.proofs.Meeting.{taken_step, meets}
-use Rattle.bd_step.proofs.Exiting.{thread_ends}
+use Rattle.bd_step.proofs.{Words.{exit_thread_step, refl, ◌∙◌}, Exiting.{thread_ends}, Meeting.{taken_step, meets}, Standing.{within}}
 use Rattle.bd_step.proofs.tables.Tables.exit_thread.Goals as goal
 
 pub returns-clause-step : goal.returns-clause-step

@@ -1,12 +1,4 @@
-use Rattle.std.proofs.Common.{◌≡◌, ap, sym, subst, ◌∙◌, length}
-use Rattle.bd_space.specs.declared.space.Buffer.{Buffer}
-use Rattle.bd_space.specs.Delivery.{own_notices}
-use Rattle.bd_space.specs.Windows.{needed}
-use Rattle.bd_buffers.specs.declared.windows.Windows.{Windows}
-use Rattle.bd_buffers.specs.WindowsStand.{CanAdd, HasBufferRoom}
-use Rattle.bd_step.specs.Stands.{Within}
-use Rattle.bd_step.specs.Deliveries.{size_of}
-use Rattle.bd_step.proofs.Deliveries.{filled_is}
+use Rattle.bd_step.proofs.{Words.{Buffer, CanAdd, HasBufferRoom, Windows, Within, ap, length, needed, own_notices, size_of, subst, sym, ◌∙◌, ◌≡◌}, Deliveries.{filled_is}}
 use Rattle.bd_step.proofs.tables.Tables.fill.Goals as goal
 
 pub returns-clause-stands : goal.returns-clause-stands

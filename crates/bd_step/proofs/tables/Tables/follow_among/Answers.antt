@@ -1,11 +1,4 @@
-use Rattle.std.proofs.Common.{rules, take, sym, subst}
-use Rattle.std.proofs.lemmas.List.{take_all}
-use Rattle.bd_ways.specs.Local.{names_among, is_among}
-use Rattle.bd_laws.specs.Lists.{Pairs}
-use Rattle.bd_laws.specs.Objects.{Earlier}
-use Rattle.bd_step.specs.Stands.{Within}
-use Rattle.bd_step.specs.Following.{names_followed}
-use Rattle.bd_step.proofs.Following.{names_none, names_next, names_first, followed_objects}
+use Rattle.bd_step.proofs.{Words.{Earlier, Pairs, Within, is_among, names_among, names_followed, rules, subst, sym, take, take_all}, Following.{names_none, names_next, names_first, followed_objects}}
 use Rattle.bd_step.proofs.tables.Tables.follow_among.Goals as goal
 
 pub loop-o-init : goal.loop-o-init

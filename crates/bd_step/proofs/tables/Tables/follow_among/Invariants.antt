@@ -1,7 +1,5 @@
-use Rattle.std.proofs.Common.{take}
-use Rattle.bd_ways.specs.Local.{names_among}
-use Rattle.bd_step.specs.Stands.{MakesWithin, UsesNothing, KeepsTold}
-use Rattle.bd_step.specs.Following.{names_followed}
+use Rattle.bd_step.proofs.Words.{KeepsTold, MakesWithin, names_among, names_followed, take}
+use Rattle.bd_step.specs.Stands.{UsesNothing}
 use Rattle.bd_step.proofs.tables.Tables.follow_among.Given as goal
 
 abbrev pub invariant-loop-o : goal.invariant-loop-o

@@ -1,8 +1,4 @@
-use Rattle.std.proofs.Common.{sym, subst, ◌∙◌}
-use Rattle.bd_ways.specs.Local.{at_name, deaths_go_of, work_goes_of}
-use Rattle.bd_step.specs.Stands.{Within}
-use Rattle.bd_step.specs.Following.{deaths_followed, deaths_withdrawn}
-use Rattle.bd_step.proofs.Following.{none_lost}
+use Rattle.bd_step.proofs.{Words.{Within, at_name, deaths_followed, deaths_go_of, deaths_withdrawn, subst, sym, work_goes_of, ◌∙◌}, Following.{none_lost}}
 use Rattle.bd_step.proofs.tables.Tables.follow_deaths.Goals as goal
 
 pub returns-clause-stands : goal.returns-clause-stands

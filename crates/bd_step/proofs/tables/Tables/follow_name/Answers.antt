@@ -1,7 +1,4 @@
-use Rattle.std.proofs.Common.{◌+◌}
-use Rattle.bd_ways.specs.Local.{at_name, names_go_of}
-use Rattle.bd_step.specs.Following.{names_followed}
-use Rattle.bd_step.proofs.Changing.{with_objects}
+use Rattle.bd_step.proofs.{Words.{at_name, names_followed, names_go_of, ◌+◌}, Changing.{with_objects}}
 use Rattle.bd_step.proofs.tables.Tables.follow_name.Goals as goal
 
 pub returns-clause-stands : goal.returns-clause-stands

@@ -1,5 +1,4 @@
-use Rattle.bd_ways.specs.Local.{at_object, objects_go_of}
-use Rattle.bd_step.specs.Following.{shed_of}
+use Rattle.bd_step.proofs.Words.{at_object, objects_go_of, shed_of}
 use Rattle.bd_step.proofs.tables.Tables.follow_object.Goals as goal
 
 pub returns-clause-stands : goal.returns-clause-stands

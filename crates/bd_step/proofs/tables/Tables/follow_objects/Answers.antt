@@ -1,8 +1,4 @@
-use Rattle.std.proofs.Common.{subst, ◌∙◌}
-use Rattle.bd_ways.specs.Local.{is_among}
-use Rattle.bd_step.specs.Stands.{Within}
-use Rattle.bd_step.specs.Following.{shed_of}
-use Rattle.bd_step.proofs.FollowingObjects.{nobody_told, objects_followed, one_followed}
+use Rattle.bd_step.proofs.{Words.{Within, is_among, shed_of, subst, ◌∙◌}, FollowingObjects.{nobody_told, objects_followed, one_followed}}
 use Rattle.bd_step.proofs.tables.Tables.follow_objects.Goals as goal
 
 pub returns-then-touched-eq1-clause-stands : goal.returns-then-touched-eq1-clause-stands

@@ -1,23 +1,5 @@
-use Rattle.std.proofs.Common.{◌≡◌, ℕ, Bool, true, false, Option, Some, None, Result, Ok, Err, refl, sym, subst, ap, ◌∙◌}
-use Rattle.std.specs.Prelude.{if◌then◌else◌}
-use Rattle.bd_uapi.specs.declared.fault.Note.{Note}
-use Rattle.bd_uapi.specs.declared.fault.Note.TheVariants.{NotHandedOut}
-use Rattle.bd_space.specs.declared.space.Buffer.{Buffer}
-use Rattle.bd_space.specs.Space.{Space}
-use Rattle.bd_space.specs.Outcomes.{Outcome, accepted, noted}
-use Rattle.bd_space.specs.Freeing.{free_step, free_outcome, without_buffer, buffer_at_pointer}
-use Rattle.bd_buffers.specs.Buffer.{freed_buffer}
-use Rattle.bd_ways.specs.Local.{is_among}
-use Rattle.bd_laws.specs.Lists.{Pairs}
-use Rattle.bd_laws.specs.Objects.{NotLater}
-use Rattle.bd_step.specs.Stands.{Within}
-use Rattle.bd_step.specs.Freed.{referred}
-use Rattle.bd_step.specs.Following.{AreTouched}
-use Rattle.bd_step.proofs.Standing.{within}
-use Rattle.bd_step.proofs.Meeting.{taken_step, meets}
-use Rattle.bd_step.proofs.Freeing.{buffer_freed}
-use Rattle.bd_step.proofs.Acting.{process_of}
-use Rattle.bd_step.proofs.Accepting.{notes}
+use Rattle.bd_step.proofs.{Words.{AreTouched, Bool, Buffer, Err, None, NotHandedOut, NotLater, Note, Ok, Option, Outcome, Pairs, Result, Some, Space, Within, accepted, ap, buffer_at_pointer, false, free_outcome, free_step, freed_buffer, if◌then◌else◌, is_among, noted, referred, refl, subst, sym, true, without_buffer, ℕ, ◌∙◌, ◌≡◌}, Accepting.{notes}, Acting.{process_of}, Freeing.{buffer_freed}}
+use Rattle.bd_step.proofs.{Meeting.{taken_step, meets}, Standing.{within}}
 use Rattle.bd_step.proofs.tables.Tables.free.Goals as goal
 
 -- the outcome by what the check answers

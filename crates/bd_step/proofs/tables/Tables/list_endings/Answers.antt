@@ -1,8 +1,4 @@
-use Rattle.std.proofs.Common.{List, ℕ, sym, subst}
-use Rattle.bd_space.specs.Histories.{space_after}
-use Rattle.bd_space.specs.Steps.{change}
-use Rattle.bd_step.specs.Ending.{HasEndings}
-use Rattle.bd_step.proofs.Ending.{others_end_none}
+use Rattle.bd_step.proofs.{Words.{HasEndings, List, change, space_after, subst, sym, ℕ}, Ending.{others_end_none}}
 use Rattle.bd_step.proofs.tables.Tables.list_endings.Goals as goal
 
 pub returns-in_default-clause-listed : goal.returns-in_default-clause-listed

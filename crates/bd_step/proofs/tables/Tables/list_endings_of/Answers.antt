@@ -1,9 +1,5 @@
-use Rattle.std.proofs.Common.{List, ℕ, sym, subst}
+use Rattle.bd_step.proofs.{Words.{HasEndings, List, change, space_after, subst, sym, ℕ}, Ending.{others_free_none}}
 use Rattle.bd_space.specs.declared.step.Step.TheVariants as step_of
-use Rattle.bd_space.specs.Histories.{space_after}
-use Rattle.bd_space.specs.Steps.{change}
-use Rattle.bd_step.specs.Ending.{HasEndings}
-use Rattle.bd_step.proofs.Ending.{others_free_none}
 use Rattle.bd_step.proofs.tables.Tables.list_endings_of.Goals as goal
 
 pub returns-in_default-clause-listed : goal.returns-in_default-clause-listed

@@ -1,15 +1,6 @@
-use Rattle.std.proofs.Common.{◌≡◌, Bool, List, ℕ, [], ◌∷◌, ◌++◌, Some, Result, Ok, Err, OnErr, find, ap, sym, subst, ◌∙◌}
-use Rattle.bd_uapi.specs.declared.command.Command.TheVariants as bc
+use Rattle.bd_step.proofs.{Words.{Bool, Buffer, Err, HasEndings, List, Ok, OnErr, Result, Some, [], actor_acts, ap, at_pairs, buffer_at_pointer, change, find, space_after, stands_in, subst, sym, ℕ, ◌++◌, ◌∙◌, ◌∷◌, ◌≡◌}, Ending.{Earlier, nobody_frees, somebody_frees, free_ended, unfound_ended}}
 use Rattle.bd_space.specs.declared.step.Step.TheVariants as step_of
-use Rattle.bd_space.specs.Histories.{space_after}
-use Rattle.bd_space.specs.Steps.{change}
-use Rattle.bd_space.specs.Freeing.{buffer_at_pointer}
-use Rattle.bd_space.specs.declared.space.Buffer.{Buffer}
-use Rattle.bd_buffers.proofs.WindowLaws.{stands_in}
-use Rattle.bd_laws.proofs.Checks.{actor_acts}
-use Rattle.bd_laws.proofs.Lists.{at_pairs}
-use Rattle.bd_step.specs.Ending.{HasEndings}
-use Rattle.bd_step.proofs.Ending.{Earlier, nobody_frees, somebody_frees, free_ended, unfound_ended}
+use Rattle.bd_uapi.specs.declared.command.Command.TheVariants as bc
 use Rattle.bd_step.proofs.tables.Tables.list_freed.Goals as goal
 
 pub returns-in_default-clause-listed : goal.returns-in_default-clause-listed

@@ -1,16 +1,5 @@
-use Rattle.std.proofs.Common.{◌≡◌, ◌≤◌, List, [], ℕ, ◌++◌, length, ap, sym, subst, ◌∙◌, map, arith}
-use Rattle.bd_space.specs.declared.step.Step.{Step}
+use Rattle.bd_step.proofs.{Words.{Buffer, HasEndings, List, Space, Step, [], always_tidy, ap, arith, buffers_of, change, length, made_of_buffer, map, space_after, stands_in, subst, sym, ℕ, ◌++◌, ◌∙◌, ◌≡◌, ◌≤◌}, Ending.{nobody_exits_thread, nobody_exits_process, somebody_exits_thread, somebody_exits_process, if_ok, if_err}}
 use Rattle.bd_space.specs.declared.step.Step.TheVariants as step_of
-use Rattle.bd_space.specs.Space.{Space}
-use Rattle.bd_space.specs.declared.space.Buffer.{Buffer}
-use Rattle.bd_space.specs.Histories.{space_after}
-use Rattle.bd_space.specs.Steps.{change}
-use Rattle.bd_space.specs.Windows.{buffers_of}
-use Rattle.bd_buffers.specs.WindowsStand.{made_of_buffer}
-use Rattle.bd_buffers.proofs.WindowLaws.{stands_in}
-use Rattle.bd_laws.proofs.Always.{always_tidy}
-use Rattle.bd_step.specs.Ending.{HasEndings}
-use Rattle.bd_step.proofs.Ending.{nobody_exits_thread, nobody_exits_process, somebody_exits_thread, somebody_exits_process, if_ok, if_err}
 use Rattle.bd_step.proofs.tables.Tables.list_received.Goals as goal
 
 -- what is listed is what the process has received

@@ -1,7 +1,4 @@
-use Rattle.std.proofs.Common.{ap, sym, ◌∙◌, Some}
-use Rattle.bd_space.specs.Todo.{list_to_read, work_on}
-use Rattle.bd_space.specs.ReadItems.{none_due}
-use Rattle.bd_step.proofs.TakingItems.{due_by, own_due}
+use Rattle.bd_step.proofs.{Words.{Some, ap, list_to_read, none_due, sym, work_on, ◌∙◌}, TakingItems.{due_by, own_due}}
 use Rattle.bd_step.proofs.tables.Tables.list_to_read.Goals as goal
 
 pub returns-in-Some-OfThread-clause-some : goal.returns-in-Some-OfThread-clause-some

@@ -1,8 +1,4 @@
-use Rattle.std.proofs.Common.{rules, arith, List, take, take_all, subst}
-use Rattle.bd_space.specs.declared.step.Identity.{Identity}
-use Rattle.bd_step.specs.Stands.{Within}
-use Rattle.bd_step.specs.Following.{told_of}
-use Rattle.bd_step.proofs.FollowingObjects.{told_next}
+use Rattle.bd_step.proofs.{Words.{Identity, List, Within, arith, rules, subst, take, take_all, told_of}, FollowingObjects.{told_next}}
 use Rattle.bd_step.proofs.tables.Tables.notify_objects.Goals as goal
 
 pub loop-o-init : goal.loop-o-init

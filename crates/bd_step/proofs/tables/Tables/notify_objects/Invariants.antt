@@ -1,6 +1,4 @@
-use Rattle.std.proofs.Common.{take}
-use Rattle.bd_step.specs.Stands.{MakesWithin, Uses, KeepsTold}
-use Rattle.bd_step.specs.Following.{told_of}
+use Rattle.bd_step.proofs.Words.{KeepsTold, MakesWithin, Uses, take, told_of}
 use Rattle.bd_step.proofs.tables.Tables.notify_objects.Given as goal
 
 abbrev pub invariant-loop-o : goal.invariant-loop-o

@@ -1,8 +1,4 @@
-use Rattle.std.proofs.Common.{◌+◌, refl, sym, subst, ◌∙◌}
-use Rattle.bd_space.specs.Steps.{open_step, open_outcome, with_thread, with_process}
-use Rattle.bd_step.specs.Stands.{StandsAt}
-use Rattle.bd_step.proofs.Meeting.{taken_step, meets, in_case, is_refused}
-use Rattle.bd_step.proofs.New.{new_seat, new_pid}
+use Rattle.bd_step.proofs.{Words.{StandsAt, open_outcome, open_step, refl, subst, sym, with_process, with_thread, ◌+◌, ◌∙◌}, Meeting.{taken_step, meets, in_case, is_refused}, New.{new_seat, new_pid}}
 use Rattle.bd_step.proofs.tables.Tables.open.Goals as goal
 
 pub returns-in-Some-clause-step : goal.returns-in-Some-clause-step

@@ -1,4 +1,4 @@
-use Rattle.std.proofs.Common.{rules, tests}
+use Rattle.bd_step.proofs.Words.{rules, tests}
 use Rattle.bd_step.proofs.tables.Tables.open_fault.Goals as goal
 
 pub returns-then-is_some-2-clause-fault : goal.returns-then-is_some-2-clause-fault

@@ -1,6 +1,4 @@
-use Rattle.bd_space.specs.declared.space.TodoList.TheVariants.{OfThread}
-use Rattle.bd_space.specs.Todo.{owe}
-use Rattle.bd_step.proofs.Changing.{with_calls}
+use Rattle.bd_step.proofs.{Words.{OfThread, owe}, Changing.{with_calls}}
 use Rattle.bd_step.proofs.tables.Tables.owe.Goals as goal
 
 pub returns-clause-stands : goal.returns-clause-stands

@@ -1,10 +1,4 @@
-use Rattle.std.proofs.Common.{◌+◌, List, take, take_all, subst, arith, rules}
-use Rattle.bd_space.specs.declared.space.DeathNotification.{DeathNotification}
-use Rattle.bd_space.specs.Todo.{owe}
-use Rattle.bd_step.specs.Stands.{Within}
-use Rattle.bd_step.specs.Telling.{owed}
-use Rattle.bd_step.proofs.Changing.{with_calls}
-use Rattle.bd_step.proofs.Owing.{owed_more}
+use Rattle.bd_step.proofs.{Words.{DeathNotification, List, Within, arith, owe, owed, rules, subst, take, take_all, ◌+◌}, Changing.{with_calls}, Owing.{owed_more}}
 use Rattle.bd_step.proofs.tables.Tables.owe_deaths.Goals as goal
 
 pub loop-x-preserved : goal.loop-x-preserved

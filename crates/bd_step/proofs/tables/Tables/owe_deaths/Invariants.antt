@@ -1,7 +1,4 @@
-use Rattle.std.proofs.Common.{take}
-use Rattle.bd_space.specs.Space.{Space}
-use Rattle.bd_step.specs.Stands.{Within, Uses, KeepsTold}
-use Rattle.bd_step.specs.Telling.{owed}
+use Rattle.bd_step.proofs.Words.{KeepsTold, Space, Uses, Within, owed, take}
 use Rattle.bd_step.proofs.tables.Tables.owe_deaths.Given as goal
 
 abbrev pub invariant-loop-x : goal.invariant-loop-x

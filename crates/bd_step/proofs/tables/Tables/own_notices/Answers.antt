@@ -1,5 +1,4 @@
-use Rattle.std.specs.List.{fold}
-use Rattle.bd_space.specs.Delivery.{own_notices, withdraw_notice}
+use Rattle.bd_step.proofs.Words.{fold, own_notices, withdraw_notice}
 use Rattle.bd_step.proofs.tables.Tables.own_notices.Goals as goal
 
 pub returns-clause-stands : goal.returns-clause-stands

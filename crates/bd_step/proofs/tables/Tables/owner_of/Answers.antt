@@ -1,9 +1,4 @@
-use Rattle.std.proofs.Common.{ap, ◌∙◌, Option}
-use Rattle.std.specs.Prelude.{option_and_then}
-use Rattle.bd_space.specs.declared.space.Object.{Object}
-use Rattle.bd_space.specs.Seats.{process_in}
-use Rattle.bd_space.specs.Transactions.{owner_of}
-use Rattle.bd_step.proofs.Stepping.{if_lives}
+use Rattle.bd_step.proofs.{Words.{Object, Option, ap, option_and_then, owner_of, process_in, ◌∙◌}, Stepping.{if_lives}}
 use Rattle.bd_step.proofs.tables.Tables.owner_of.Goals as goal
 
 pub returns-clause-owner : goal.returns-clause-owner

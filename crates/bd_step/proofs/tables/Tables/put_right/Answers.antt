@@ -1,6 +1,4 @@
-use Rattle.std.proofs.Common.{ℕ, List, Option, ap, sym, subst, ◌∙◌, length}
-use Rattle.bd_space.specs.Parcels.{translation}
-use Rattle.bd_step.specs.Deliveries.{IsCopy}
+use Rattle.bd_step.proofs.Words.{IsCopy, List, Option, ap, length, subst, sym, translation, ℕ, ◌∙◌}
 use Rattle.bd_step.proofs.tables.Tables.put_right.Goals as goal
 
 pub returns-in-Some-clause-translated : goal.returns-in-Some-clause-translated

@@ -1,13 +1,4 @@
-use Rattle.std.proofs.Common.{◌-◌, ◌∙◌, List, sym, ap, subst}
-use Rattle.std.specs.Option.{is_none}
-use Rattle.bd_uapi.specs.declared.fault.Fault.TheVariants.{ReadTooSmall, Again}
-use Rattle.bd_space.specs.declared.space.Work.{Work}
-use Rattle.bd_space.specs.Todo.{list_to_read}
-use Rattle.bd_space.specs.ReadItems.{read_step, read_taking, taken}
-use Rattle.bd_laws.proofs.Checks.{actor_lives}
-use Rattle.bd_step.specs.Taking.{IsReading}
-use Rattle.bd_step.proofs.Meeting.{IsOutcome, meets, in_case, is_refused, taken_step, written_step}
-use Rattle.bd_step.proofs.TakingItems.{read_outcome, too_small, nothing, readable}
+use Rattle.bd_step.proofs.{Words.{Again, IsReading, List, ReadTooSmall, Work, actor_lives, ap, is_none, list_to_read, read_step, read_taking, subst, sym, taken, ◌-◌, ◌∙◌}, Meeting.{IsOutcome, meets, in_case, is_refused, taken_step, written_step}, TakingItems.{read_outcome, too_small, nothing, readable}}
 use Rattle.bd_step.proofs.tables.Tables.read.Goals as goal
 
 pub returns-then-limit-lt72-clause-step : goal.returns-then-limit-lt72-clause-step

@@ -1,4 +1,4 @@
-use Rattle.bd_space.specs.ReadItems.{read_by}
+use Rattle.bd_step.proofs.Words.{read_by}
 use Rattle.bd_step.proofs.tables.Tables.read_by.Goals as goal
 
 pub returns-clause-stands : goal.returns-clause-stands

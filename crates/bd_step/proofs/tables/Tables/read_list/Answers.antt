@@ -1,16 +1,4 @@
-use Rattle.std.proofs.Common.{◌-◌, Some, List, subst, sym, ap, ◌∙◌, option_map}
-use Rattle.std.specs.List.{filter_map}
-use Rattle.bd_buffers.specs.WindowsStand.{made_of_buffer}
-use Rattle.bd_space.specs.declared.space.Work.{Work}
-use Rattle.bd_space.specs.Todo.{notice_of, work_on}
-use Rattle.bd_ways.specs.Local.{is_among}
-use Rattle.bd_space.specs.ReadItems.{read_taking, got, read_by, buffer_taken, taken}
-use Rattle.bd_space.specs.Returns.{stream_of}
-use Rattle.bd_step.specs.Stands.{Within}
-use Rattle.bd_step.proofs.Standing.{within}
-use Rattle.bd_step.proofs.Meeting.{meets}
-use Rattle.bd_step.proofs.Reading.{read_followed, read_ordered}
-use Rattle.bd_step.proofs.FollowingObjects.{among_noticed}
+use Rattle.bd_step.proofs.{Words.{List, Some, Within, Work, ap, buffer_taken, filter_map, got, is_among, made_of_buffer, notice_of, option_map, read_by, read_taking, stream_of, subst, sym, taken, work_on, ◌-◌, ◌∙◌}, FollowingObjects.{among_noticed}, Meeting.{meets}, Reading.{read_followed, read_ordered}, Standing.{within}}
 use Rattle.bd_step.proofs.tables.Tables.read_list.Goals as goal
 
 pub returns-clause-ok : goal.returns-clause-ok

@@ -1,9 +1,4 @@
-use Rattle.bd_space.specs.declared.space.TodoList.TheVariants.{OfThread}
-use Rattle.bd_space.specs.declared.space.WorkKind.TheVariants.{Refusal}
-use Rattle.bd_uapi.specs.declared.command.Return.TheVariants.{TransactionComplete}
-use Rattle.bd_space.specs.Todo.{owe}
-use Rattle.bd_space.specs.Frames.{closed}
-use Rattle.bd_space.specs.Replies.{reply_refused}
+use Rattle.bd_step.proofs.Words.{OfThread, Refusal, TransactionComplete, closed, owe, reply_refused}
 use Rattle.bd_step.proofs.tables.Tables.refuse_reply.Goals as goal
 
 pub returns-clause-stands : goal.returns-clause-stands

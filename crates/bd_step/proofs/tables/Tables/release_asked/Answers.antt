@@ -1,11 +1,4 @@
-use Rattle.std.proofs.Common.{◌+◌, ◌∷◌, [], ◌∙◌, ap, sym, subst}
-use Rattle.bd_space.specs.Asking.{drop_asked}
-use Rattle.bd_ways.specs.Local.{follow_of, at_name, is_among}
-use Rattle.bd_laws.proofs.Fewer.{dropped_local}
-use Rattle.bd_step.specs.Stands.{Within}
-use Rattle.bd_step.proofs.Changing.{with_objects}
-use Rattle.bd_step.proofs.Following.{named_one}
-use Rattle.bd_step.proofs.FollowingObjects.{among_one}
+use Rattle.bd_step.proofs.{Words.{Within, [], ap, at_name, drop_asked, dropped_local, follow_of, is_among, subst, sym, ◌+◌, ◌∙◌, ◌∷◌}, Changing.{with_objects}, Following.{named_one}, FollowingObjects.{among_one}}
 use Rattle.bd_step.proofs.tables.Tables.release_asked.Goals as goal
 
 pub returns-clause-stands : goal.returns-clause-stands

@@ -1,8 +1,4 @@
-use Rattle.std.proofs.Common.{sym, subst}
-use Rattle.bd_space.specs.Freeing.{without_buffer}
-use Rattle.bd_step.specs.Stands.{Within}
-use Rattle.bd_step.specs.Freed.{ripen_next}
-use Rattle.bd_step.proofs.Freeing.{freed_followed, freed_ordered}
+use Rattle.bd_step.proofs.{Words.{Within, ripen_next, subst, sym, without_buffer}, Freeing.{freed_followed, freed_ordered}}
 use Rattle.bd_step.proofs.tables.Tables.release_buffer.Goals as goal
 
 pub returns-clause-stands : goal.returns-clause-stands

@@ -1,10 +1,4 @@
-use Rattle.std.proofs.Common.{◌+◌, ◌∙◌, ap, sym, subst}
-use Rattle.bd_space.specs.Asking.{acknowledge}
-use Rattle.bd_ways.specs.Local.{follow_of, no_name}
-use Rattle.bd_laws.proofs.Fewer.{acknowledged_local}
-use Rattle.bd_step.specs.Stands.{Within}
-use Rattle.bd_step.proofs.Changing.{with_objects}
-use Rattle.bd_step.proofs.FollowingObjects.{among_one}
+use Rattle.bd_step.proofs.{Words.{Within, acknowledge, acknowledged_local, ap, follow_of, no_name, subst, sym, ◌+◌, ◌∙◌}, Changing.{with_objects}, FollowingObjects.{among_one}}
 use Rattle.bd_step.proofs.tables.Tables.release_handshake.Goals as goal
 
 pub returns-clause-stands : goal.returns-clause-stands

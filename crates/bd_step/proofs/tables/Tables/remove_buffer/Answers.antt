@@ -1,4 +1,4 @@
-use Rattle.bd_space.specs.Freeing.{without_buffer}
+use Rattle.bd_step.proofs.Words.{without_buffer}
 use Rattle.bd_step.proofs.tables.Tables.remove_buffer.Goals as goal
 
 pub returns-clause-stands : goal.returns-clause-stands

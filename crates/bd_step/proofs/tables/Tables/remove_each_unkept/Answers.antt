@@ -1,10 +1,4 @@
-use Rattle.std.proofs.Common.{◌≡◌, ℕ, Bool, true, false, ◌||◌, Option, Some, None, refl, rules, arith, List, take, take_all, sym, subst, ◌∙◌}
-use Rattle.std.specs.Option.{is_some}
-use Rattle.bd_space.specs.declared.step.Identity.{Identity}
-use Rattle.bd_ways.specs.Local.{is_among, objects_go_of}
-use Rattle.bd_step.specs.Stands.{Within}
-use Rattle.bd_step.specs.Following.{shed_of, IsNobodyDue}
-use Rattle.bd_step.proofs.FollowingObjects.{nobody_next, shed_none, shed_next}
+use Rattle.bd_step.proofs.{Words.{Bool, Identity, IsNobodyDue, List, None, Option, Some, Within, arith, false, is_among, is_some, objects_go_of, refl, rules, shed_of, subst, sym, take, take_all, true, ℕ, ◌||◌, ◌∙◌, ◌≡◌}, FollowingObjects.{nobody_next, shed_none, shed_next}}
 use Rattle.bd_step.proofs.tables.Tables.remove_each_unkept.Goals as goal
 
 pub loop-o-init : goal.loop-o-init

@@ -1,8 +1,5 @@
-use Rattle.std.proofs.Common.{◌≡◌, false, take}
-use Rattle.bd_space.specs.Space.{Space}
-use Rattle.bd_ways.specs.Local.{is_among}
-use Rattle.bd_step.specs.Stands.{Within, MakesWithin, UsesNothing, KeepsTold}
-use Rattle.bd_step.specs.Following.{shed_of, IsNobodyDue}
+use Rattle.bd_step.proofs.Words.{IsNobodyDue, KeepsTold, MakesWithin, Space, Within, false, is_among, shed_of, take, ◌≡◌}
+use Rattle.bd_step.specs.Stands.{UsesNothing}
 use Rattle.bd_step.proofs.tables.Tables.remove_each_unkept.Given as goal
 
 abbrev pub invariant-loop-o : goal.invariant-loop-o

@@ -1,19 +1,5 @@
-use Rattle.std.proofs.Common.{◌≡◌, ℕ, Bool, not, Option, ap, sym, subst, ◌∙◌, ◌+◌}
-use Rattle.std.specs.Option.{is_some}
-use Rattle.bd_space.specs.declared.step.Identity.{Identity}
-use Rattle.bd_space.specs.Words.{is_some_and}
-use Rattle.bd_space.specs.Space.{Space}
-use Rattle.bd_space.specs.References.{object_in}
-use Rattle.bd_space.specs.Notices.{wants_notice}
-use Rattle.bd_ways.specs.Local.{at_object, objects_go_of}
-use Rattle.bd_objects.specs.declared.table.ObjectTable.{ObjectTable}
+use Rattle.bd_step.proofs.{Words.{Bool, Identity, ObjectTable, Option, Space, Tables, Within, ap, at_object, is_some, is_some_and, not, object_in, objects_go_of, owner_due, shed_of, subst, sym, wants_notice, ℕ, ◌+◌, ◌∙◌, ◌≡◌}, Changing.{with_objects, with_calls}, FollowingObjects.{shed_wanted, shed_unwanted, owner_wanted}}
 use Rattle.bd_objects.specs.Stands as objects
-use Rattle.bd_objects.specs.Telling.{owner_due}
-use Rattle.bd_step.specs.declared.tables.Tables.{Tables}
-use Rattle.bd_step.specs.Stands.{Within}
-use Rattle.bd_step.specs.Following.{shed_of}
-use Rattle.bd_step.proofs.Changing.{with_objects, with_calls}
-use Rattle.bd_step.proofs.FollowingObjects.{shed_wanted, shed_unwanted, owner_wanted}
 use Rattle.bd_step.proofs.tables.Tables.remove_unkept.Goals as goal
 
 -- the object went where nothing keeps it

@@ -1,6 +1,4 @@
-use Rattle.std.proofs.Common.{◌+◌}
-use Rattle.bd_space.specs.Delivery.{delivered}
-use Rattle.bd_step.proofs.Stepping.{replied_full, replied_stands}
+use Rattle.bd_step.proofs.{Words.{delivered, ◌+◌}, Stepping.{replied_full, replied_stands}}
 use Rattle.bd_step.proofs.tables.Tables.replied.Goals as goal
 
 pub returns-in-Err-clause-full : goal.returns-in-Err-clause-full

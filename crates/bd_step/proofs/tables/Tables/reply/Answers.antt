@@ -1,8 +1,4 @@
-use Rattle.bd_step.specs.Meets.{IsAny, IsBy, IsServing}
-use Rattle.std.proofs.Common.{None, Some, sym}
-use Rattle.bd_step.proofs.Meeting.{as_step}
-use Rattle.bd_step.proofs.Stacked.{tidy_stacked}
-use Rattle.bd_step.proofs.Stepping.{reply_by_frame}
+use Rattle.bd_step.proofs.{Words.{IsAny, IsBy, IsServing, None, Some, sym}, Meeting.{as_step}, Stacked.{tidy_stacked}, Stepping.{reply_by_frame}}
 use Rattle.bd_step.proofs.tables.Tables.reply.Goals as goal
 
 pub returns-in-None-clause-step : goal.returns-in-None-clause-step

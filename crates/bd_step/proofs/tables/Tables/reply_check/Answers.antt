@@ -1,14 +1,4 @@
-use Rattle.std.proofs.Common.{◌≡◌, ◌∙◌, Result, Some, None, false}
-use Rattle.std.proofs.lemmas.Result.{IfOk-weaker}
-use Rattle.bd_uapi.specs.declared.fault.Cause.{Cause}
-use Rattle.bd_space.specs.Space.{Space}
-use Rattle.bd_space.specs.Words.{and_then}
-use Rattle.bd_space.specs.Seats.{process_in}
-use Rattle.bd_space.specs.Parcels.{sending_of}
-use Rattle.bd_space.specs.Delivery.{Delivery, placed_for}
-use Rattle.bd_space.specs.Replies.{reply_check}
-use Rattle.bd_step.specs.Stands.{Before}
-use Rattle.bd_step.proofs.Stepping.{caller_gone, caller_there}
+use Rattle.bd_step.proofs.{Words.{Before, Cause, Delivery, IfOk-weaker, None, Result, Some, Space, and_then, false, placed_for, process_in, reply_check, sending_of, ◌∙◌, ◌≡◌}, Stepping.{caller_gone, caller_there}}
 use Rattle.bd_step.proofs.tables.Tables.reply_check.Goals as goal
 
 pub returns-in-None-clause-computed : goal.returns-in-None-clause-computed

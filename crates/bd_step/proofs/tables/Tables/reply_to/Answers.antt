@@ -1,7 +1,4 @@
-use Rattle.std.proofs.Common.{◌∙◌, sym}
-use Rattle.bd_step.specs.Meets.{IsServing, IsReplying}
-use Rattle.bd_step.proofs.Meeting.{as_step}
-use Rattle.bd_step.proofs.Stepping.{reply_stops, reply_answers}
+use Rattle.bd_step.proofs.{Words.{IsReplying, IsServing, sym, ◌∙◌}, Meeting.{as_step}, Stepping.{reply_stops, reply_answers}}
 use Rattle.bd_step.proofs.tables.Tables.reply_to.Goals as goal
 
 pub returns-in-Ok-Err-clause-step : goal.returns-in-Ok-Err-clause-step

@@ -1,9 +1,4 @@
-use Rattle.std.proofs.Common.{sym}
-use Rattle.bd_space.specs.Deaths.{request_check, requested}
-use Rattle.bd_laws.proofs.Others.{requested_local}
-use Rattle.bd_step.proofs.Accepting.{checked_notes, checked_accepts_alone}
-use Rattle.bd_step.proofs.New.{new_death}
-use Rattle.bd_step.proofs.Meeting.{taken_step}
+use Rattle.bd_step.proofs.{Words.{request_check, requested, requested_local, sym}, Accepting.{checked_notes, checked_accepts_alone}, Meeting.{taken_step}, New.{new_death}}
 use Rattle.bd_step.proofs.tables.Tables.request_death.Goals as goal
 
 pub returns-in-Err-clause-step : goal.returns-in-Err-clause-step

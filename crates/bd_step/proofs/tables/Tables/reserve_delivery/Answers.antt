@@ -1,7 +1,4 @@
-use Rattle.std.proofs.Common.{ap, ◌∙◌, length, arith}
-use Rattle.bd_ways.specs.Local.{is_among}
-use Rattle.bd_step.specs.Known.{are_known_before}
-use Rattle.bd_step.proofs.Known.{known_few}
+use Rattle.bd_step.proofs.{Words.{ap, are_known_before, arith, is_among, length, ◌∙◌}, Known.{known_few}}
 use Rattle.bd_step.proofs.tables.Tables.reserve_delivery.Goals as goal
 
 pub returns-clause-touched : goal.returns-clause-touched

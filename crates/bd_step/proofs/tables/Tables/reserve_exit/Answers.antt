@@ -1,5 +1,4 @@
-use Rattle.std.proofs.Common.{refl}
-use Rattle.bd_step.proofs.Gathering.{grows_as}
+use Rattle.bd_step.proofs.{Words.{refl}, Gathering.{grows_as}}
 use Rattle.bd_step.proofs.tables.Tables.reserve_exit.Goals as goal
 
 pub returns-clause-grows : goal.returns-clause-grows

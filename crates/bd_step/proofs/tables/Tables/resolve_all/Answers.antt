@@ -1,10 +1,4 @@
-use Rattle.std.proofs.Common.{◌∙◌, ap, sym, subst, List, ℕ, length, ◌+◌, ◌≤◌, arith}
-use Rattle.std.specs.List.{slice_get, All}
-use Rattle.bd_uapi.specs.declared.object.FlatObject.{FlatObject}
-use Rattle.bd_parcel.specs.Parcels.{offsets_in}
-use Rattle.bd_parcel.proofs.Walks.{as_many_objects}
-use Rattle.bd_step.specs.Deliveries.{IsInside}
-use Rattle.bd_step.proofs.Sendings.{resolved_more, resolved_stops, resolved_all, All_push, length_option}
+use Rattle.bd_step.proofs.{Words.{All, FlatObject, IsInside, List, ap, arith, as_many_objects, length, offsets_in, slice_get, subst, sym, ℕ, ◌+◌, ◌∙◌, ◌≤◌}, Sendings.{resolved_more, resolved_stops, resolved_all, All_push, length_option}}
 use Rattle.bd_step.proofs.tables.Tables.resolve_all.Goals as goal
 
 pub returns-in-Err-clause-computed : goal.returns-in-Err-clause-computed

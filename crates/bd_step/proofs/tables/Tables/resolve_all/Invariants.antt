@@ -1,10 +1,4 @@
-use Rattle.std.proofs.Common.{ℕ, ◌≡◌, ◌≤◌, [], All, drop, length}
-use Rattle.bd_parcel.specs.Parcels.{offsets_in}
-use Rattle.bd_space.specs.Space.{Space}
-use Rattle.bd_space.specs.Parcels.{resolve_all}
-use Rattle.bd_objects.specs.Made.{made_items}
-use Rattle.bd_step.specs.Stands.{StandsAt}
-use Rattle.bd_step.specs.Deliveries.{IsInside}
+use Rattle.bd_step.proofs.Words.{All, IsInside, Space, StandsAt, [], drop, length, made_items, offsets_in, resolve_all, ℕ, ◌≡◌, ◌≤◌}
 use Rattle.bd_step.proofs.tables.Tables.resolve_all.Given as goal
 
 abbrev pub invariant-loop-k : goal.invariant-loop-k

@@ -1,4 +1,4 @@
-use Rattle.std.proofs.Common.{◌≡◌, ◌%◌, length}
+use Rattle.bd_step.proofs.Words.{length, ◌%◌, ◌≡◌}
 use Rattle.bd_step.proofs.tables.Tables.resolve_walked.Goals as goal
 
 pub returns-in-Ok-clause-computed : goal.returns-in-Ok-clause-computed

@@ -1,6 +1,4 @@
-use Rattle.std.proofs.Common.{◌+◌}
-use Rattle.bd_ways.specs.Local.{ripen_of}
-use Rattle.bd_step.proofs.Changing.{with_calls}
+use Rattle.bd_step.proofs.{Words.{ripen_of, ◌+◌}, Changing.{with_calls}}
 use Rattle.bd_step.proofs.tables.Tables.ripen_next.Goals as goal
 
 pub returns-in-Some-clause-stands : goal.returns-in-Some-clause-stands

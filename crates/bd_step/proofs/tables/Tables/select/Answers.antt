@@ -1,6 +1,4 @@
-use Rattle.std.proofs.Common.{Some, sym, ◌∙◌}
-use Rattle.bd_space.specs.Todo.{work_on}
-use Rattle.bd_step.proofs.TakingItems.{at_start, at_next}
+use Rattle.bd_step.proofs.{Words.{Some, sym, work_on, ◌∙◌}, TakingItems.{at_start, at_next}}
 use Rattle.bd_step.proofs.tables.Tables.select.Goals as goal
 
 pub loop-work-init : goal.loop-work-init

@@ -1,12 +1,4 @@
-use Rattle.std.proofs.Common.{◌≡◌, ◌∙◌, sym, ap, Result, Some}
-use Rattle.std.proofs.lemmas.Result.{IfOk-weaker}
-use Rattle.bd_uapi.specs.declared.fault.Cause.{Cause}
-use Rattle.bd_space.specs.Words.{and_then}
-use Rattle.bd_space.specs.Space.{Space}
-use Rattle.bd_space.specs.Seats.{process_in}
-use Rattle.bd_space.specs.Parcels.{Sending, sending_of}
-use Rattle.bd_space.specs.Delivery.{Delivery, placed_for}
-use Rattle.bd_step.specs.Stands.{Before}
+use Rattle.bd_step.proofs.Words.{Before, Cause, Delivery, IfOk-weaker, Result, Sending, Some, Space, and_then, ap, placed_for, process_in, sending_of, sym, ◌∙◌, ◌≡◌}
 use Rattle.bd_step.proofs.tables.Tables.sent_to.Goals as goal
 
 pub returns-in-Err-clause-computed : goal.returns-in-Err-clause-computed

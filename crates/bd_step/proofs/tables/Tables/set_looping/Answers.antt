@@ -1,9 +1,4 @@
-use Rattle.std.proofs.Common.{◌+◌, refl}
-use Rattle.bd_space.specs.Steps.{with_looping}
-use Rattle.bd_laws.proofs.Others.{looping_local}
-use Rattle.bd_step.proofs.Changing.{with_calls}
-use Rattle.bd_step.proofs.Accepting.{accepts_alone}
-use Rattle.bd_step.proofs.Meeting.{taken_step}
+use Rattle.bd_step.proofs.{Words.{looping_local, refl, with_looping, ◌+◌}, Accepting.{accepts_alone}, Changing.{with_calls}, Meeting.{taken_step}}
 use Rattle.bd_step.proofs.tables.Tables.set_looping.Goals as goal
 
 pub returns-clause-step : goal.returns-clause-step

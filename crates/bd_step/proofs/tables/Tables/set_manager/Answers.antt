@@ -1,9 +1,4 @@
-use Rattle.std.proofs.Common.{refl, sym, ◌∙◌}
-use Rattle.bd_uapi.specs.declared.fault.Fault.TheVariants.{ManagerBusy}
-use Rattle.bd_space.specs.Steps.{manager_step, manager_outcome, with_manager}
-use Rattle.bd_step.proofs.Standing.{within}
-use Rattle.bd_step.proofs.Meeting.{taken_step, meets, in_case, is_refused}
-use Rattle.bd_step.proofs.New.{new_manager}
+use Rattle.bd_step.proofs.{Words.{ManagerBusy, manager_outcome, manager_step, refl, sym, with_manager, ◌∙◌}, Meeting.{taken_step, meets, in_case, is_refused}, New.{new_manager}, Standing.{within}}
 use Rattle.bd_step.proofs.tables.Tables.set_manager.Goals as goal
 
 pub returns-then-is_manager_busy-clause-step : goal.returns-then-is_manager_busy-clause-step

@@ -1,8 +1,4 @@
-use Rattle.std.proofs.Common.{refl}
-use Rattle.bd_space.specs.Spam.{spam_step, with_spam_detection}
-use Rattle.bd_buffers.proofs.Marks.{stands_marked}
-use Rattle.bd_step.proofs.Standing.{within}
-use Rattle.bd_step.proofs.Meeting.{taken_step, meets}
+use Rattle.bd_step.proofs.{Words.{refl, spam_step, stands_marked, with_spam_detection}, Meeting.{taken_step, meets}, Standing.{within}}
 use Rattle.bd_step.proofs.tables.Tables.set_spam_detection.Goals as goal
 
 pub returns-clause-step : goal.returns-clause-step

@@ -1,9 +1,4 @@
-use Rattle.std.proofs.Common.{◌+◌, refl, sym, subst}
-use Rattle.bd_space.specs.Todo.{owe}
-use Rattle.bd_laws.proofs.Refusing.{refused_local}
-use Rattle.bd_step.specs.Stands.{Within}
-use Rattle.bd_step.proofs.Standing.{within}
-use Rattle.bd_step.proofs.Meeting.{taken_step}
+use Rattle.bd_step.proofs.{Words.{Within, owe, refl, refused_local, subst, sym, ◌+◌}, Meeting.{taken_step}, Standing.{within}}
 use Rattle.bd_step.proofs.tables.Tables.stop.Goals as goal
 
 pub returns-clause-step : goal.returns-clause-step

@@ -1,11 +1,4 @@
-use Rattle.std.proofs.Common.{refl, sym, subst, ◌+◌}
-use Rattle.bd_space.specs.Replies.{reply_refused}
-use Rattle.bd_laws.proofs.Refusing.{refused_reply_local}
-use Rattle.bd_step.specs.Stands.{Within}
-use Rattle.bd_step.proofs.Standing.{within}
-use Rattle.bd_step.proofs.Afterwards.{one_frame_each, served_there}
-use Rattle.bd_step.proofs.Stepping.{refused_stands}
-use Rattle.bd_step.proofs.Meeting.{taken_step}
+use Rattle.bd_step.proofs.{Words.{Within, refl, refused_reply_local, reply_refused, subst, sym, ◌+◌}, Afterwards.{one_frame_each, served_there}, Meeting.{taken_step}, Standing.{within}, Stepping.{refused_stands}}
 use Rattle.bd_step.proofs.tables.Tables.stop_reply.Goals as goal
 
 pub returns-clause-step : goal.returns-clause-step

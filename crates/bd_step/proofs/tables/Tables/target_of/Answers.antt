@@ -1,5 +1,4 @@
-use Rattle.std.proofs.Common.{◌∙◌}
-use Rattle.bd_step.proofs.Stepping.{target_manager}
+use Rattle.bd_step.proofs.{Words.{◌∙◌}, Stepping.{target_manager}}
 use Rattle.bd_step.proofs.tables.Tables.target_of.Goals as goal
 
 pub returns-in-Some : goal.returns-in-Some

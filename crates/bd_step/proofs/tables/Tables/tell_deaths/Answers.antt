@@ -1,8 +1,4 @@
-use Rattle.std.proofs.Common.{List, subst}
-use Rattle.bd_space.specs.declared.space.DeathNotification.{DeathNotification}
-use Rattle.bd_step.specs.Stands.{Within}
-use Rattle.bd_step.specs.Telling.{owed}
-use Rattle.bd_step.proofs.Owing.{told_stands}
+use Rattle.bd_step.proofs.{Words.{DeathNotification, List, Within, owed, subst}, Owing.{told_stands}}
 use Rattle.bd_step.proofs.tables.Tables.tell_deaths.Goals as goal
 
 pub returns-clause-stands : goal.returns-clause-stands

@@ -1,16 +1,4 @@
-use Rattle.std.proofs.Common.{List, ap, sym, subst, ◌∙◌, ◌+◌}
-use Rattle.bd_space.specs.declared.space.Object.{Object}
-use Rattle.bd_space.specs.declared.space.Work.{Work}
-use Rattle.bd_space.specs.Words.{same}
-use Rattle.bd_space.specs.Space.{Space}
-use Rattle.bd_space.specs.References.{object_in}
-use Rattle.bd_space.specs.Notices.{wants_notice}
-use Rattle.bd_laws.proofs.Lists.{find_in}
-use Rattle.bd_laws.proofs.Tests.{same_eq}
-use Rattle.bd_step.specs.Stands.{Within}
-use Rattle.bd_step.specs.Following.{told_of}
-use Rattle.bd_step.proofs.Changing.{with_calls}
-use Rattle.bd_step.proofs.FollowingObjects.{owner_told, told_owner, told_nobody}
+use Rattle.bd_step.proofs.{Words.{List, Object, Space, Within, Work, ap, find_in, object_in, same, same_eq, subst, sym, told_of, wants_notice, ◌+◌, ◌∙◌}, Changing.{with_calls}, FollowingObjects.{owner_told, told_owner, told_nobody}}
 use Rattle.bd_step.proofs.tables.Tables.tell_owner.Goals as goal
 
 pub returns-in-Some-clause-stands : goal.returns-in-Some-clause-stands

@@ -1,8 +1,4 @@
-use Rattle.std.proofs.Common.{subst}
-use Rattle.bd_space.specs.ThreadExits.{thread_goes}
-use Rattle.bd_objects.specs.Stands.{StandsFor}
-use Rattle.bd_buffers.specs.WindowsStand.{StandsIn}
-use Rattle.bd_step.proofs.Handed.{lost_on}
+use Rattle.bd_step.proofs.{Words.{StandsFor, StandsIn, subst, thread_goes}, Handed.{lost_on}}
 use Rattle.bd_step.proofs.tables.Tables.thread_goes.Goals as goal
 
 pub returns-clause-stands : goal.returns-clause-stands

@@ -1,9 +1,4 @@
-use Rattle.std.proofs.Common.{ℕ, ◌+◌, List, take_all, sym, subst, arith, rules}
-use Rattle.std.specs.List.{fold}
-use Rattle.std.proofs.lemmas.List.Sums.{fold_more}
-use Rattle.bd_space.specs.Space.{Space}
-use Rattle.bd_space.specs.ThreadExits.{thread_goes}
-use Rattle.bd_step.specs.Stands.{StandsAt, Within}
+use Rattle.bd_step.proofs.Words.{List, Space, StandsAt, Within, arith, fold, fold_more, rules, subst, sym, take_all, thread_goes, ℕ, ◌+◌}
 use Rattle.bd_step.proofs.tables.Tables.threads_go.Goals as goal
 
 pub loop-seat-preserved : goal.loop-seat-preserved

@@ -1,8 +1,4 @@
-use Rattle.std.proofs.Common.{take}
-use Rattle.std.specs.List.{fold}
-use Rattle.bd_space.specs.Space.{Space}
-use Rattle.bd_space.specs.ThreadExits.{thread_goes}
-use Rattle.bd_step.specs.Stands.{Within, Uses, KeepsTold}
+use Rattle.bd_step.proofs.Words.{KeepsTold, Space, Uses, Within, fold, take, thread_goes}
 use Rattle.bd_step.proofs.tables.Tables.threads_go.Given as goal
 
 abbrev pub invariant-loop-seat : goal.invariant-loop-seat

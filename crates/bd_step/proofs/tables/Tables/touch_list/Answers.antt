@@ -1,9 +1,4 @@
-use Rattle.std.proofs.Common.{Some}
-use Rattle.bd_space.specs.Todo.{work_on}
-use Rattle.bd_space.specs.declared.space.Work.{Work}
-use Rattle.bd_step.specs.Exits.{gathers_work}
-use Rattle.bd_step.proofs.Gathering.{besides_next, more_work, grows_then}
-use Rattle.bd_step.proofs.Gathered.{on_err, any_here, any_later}
+use Rattle.bd_step.proofs.{Words.{Some, Work, gathers_work, work_on}, Gathered.{on_err, any_here, any_later}, Gathering.{besides_next, more_work, grows_then}}
 use Rattle.bd_step.proofs.tables.Tables.touch_list.Goals as goal
 
 pub loop-work-preserved : goal.loop-work-preserved

@@ -1,11 +1,4 @@
-use Rattle.std.proofs.Common.{◌≡◌, true, Some}
-use Rattle.std.specs.List.{list_any}
-use Rattle.bd_space.specs.declared.space.Work.{Work}
-use Rattle.bd_space.specs.Space.{Space}
-use Rattle.bd_space.specs.Todo.{work_on}
-use Rattle.bd_step.specs.Stands.{Before}
-use Rattle.bd_step.specs.Exits.{Grows, HasWork, gathers_work, gathers_list}
-use Rattle.bd_step.proofs.Gathering.{Besides}
+use Rattle.bd_step.proofs.{Words.{Before, Grows, HasWork, Some, Space, Work, gathers_list, gathers_work, list_any, true, work_on, ◌≡◌}, Gathering.{Besides}}
 use Rattle.bd_step.proofs.tables.Tables.touch_list.Given as goal
 
 abbrev pub invariant-loop-work : goal.invariant-loop-work

@@ -1,9 +1,4 @@
-use Rattle.std.proofs.Common.{refl, arith}
-use Rattle.bd_space.specs.declared.space.Frame.{Frame}
-use Rattle.bd_space.specs.Frames.{serves}
-use Rattle.bd_laws.proofs.Leaving.{or_left, or_right}
-use Rattle.bd_step.proofs.Gathering.{frames_then, served_gathered}
-use Rattle.bd_step.proofs.Gathered.{on_err, any_kept}
+use Rattle.bd_step.proofs.{Words.{Frame, arith, or_left, or_right, refl, serves}, Gathered.{on_err, any_kept}, Gathering.{frames_then, served_gathered}}
 use Rattle.bd_step.proofs.tables.Tables.touch_thread.Goals as goal
 
 pub returns-clause-has : goal.returns-clause-has

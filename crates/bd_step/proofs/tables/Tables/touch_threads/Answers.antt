@@ -1,8 +1,4 @@
-use Rattle.std.proofs.Common.{arith}
-use Rattle.std.proofs.lemmas.List.{drop_all}
-use Rattle.bd_step.specs.Exits.{gathers_thread}
-use Rattle.bd_step.proofs.Gathered.{on_err, any_get}
-use Rattle.bd_step.proofs.Gathering.{until_none, until_at, until_all, grows_refl, grows_then, more_thread}
+use Rattle.bd_step.proofs.{Words.{arith, drop_all, gathers_thread}, Gathered.{on_err, any_get}, Gathering.{until_none, until_at, until_all, grows_refl, grows_then, more_thread}}
 use Rattle.bd_step.proofs.tables.Tables.touch_threads.Goals as goal
 
 pub loop-seat-init : goal.loop-seat-init

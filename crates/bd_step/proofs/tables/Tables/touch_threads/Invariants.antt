@@ -1,7 +1,4 @@
-use Rattle.bd_space.specs.Space.{Space}
-use Rattle.bd_step.specs.Stands.{Before}
-use Rattle.bd_step.specs.Exits.{Grows, HasThread}
-use Rattle.bd_step.proofs.Gathering.{Until}
+use Rattle.bd_step.proofs.{Words.{Before, Grows, HasThread, Space}, Gathering.{Until}}
 use Rattle.bd_step.proofs.tables.Tables.touch_threads.Given as goal
 
 abbrev pub invariant-loop-seat : goal.invariant-loop-seat

@@ -1,7 +1,4 @@
-use Rattle.std.proofs.Common.{[], ◌∷◌, sym, refl}
-use Rattle.std.proofs.lemmas.List.{append-nil}
-use Rattle.bd_step.proofs.Gathering.{notice_gathered, reply_gathered, call_gathered, grows_by}
-use Rattle.bd_step.proofs.Gathered.{on_err}
+use Rattle.bd_step.proofs.{Words.{[], append-nil, refl, sym, ◌∷◌}, Gathered.{on_err}, Gathering.{notice_gathered, reply_gathered, call_gathered, grows_by}}
 use Rattle.bd_step.proofs.tables.Tables.touch_work.Goals as goal
 
 pub returns-in_ok-referred-in-Reply-clause-has : goal.returns-in_ok-referred-in-Reply-clause-has

@@ -1,13 +1,4 @@
-use Rattle.std.proofs.Common.{ℕ, Option, ap, sym, subst, ◌∙◌, refl}
-use Rattle.bd_space.specs.declared.step.Identity.{Identity}
-use Rattle.bd_space.specs.Transactions.{transacted}
-use Rattle.bd_ways.specs.Local.{ObjectTest, follow_of, no_name, is_among}
-use Rattle.bd_step.specs.Stands.{Within}
-use Rattle.bd_step.specs.{Freed.{ripen_next}, Known.{are_known_before}}
-use Rattle.bd_step.proofs.Standing.{numbers_completed}
-use Rattle.bd_step.proofs.Refusals.{full_if}
-use Rattle.bd_step.proofs.Afterwards.{sent_call, sent_followed, sent_ordered, ripened_ordered}
-use Rattle.bd_step.proofs.Meeting.{taken_step}
+use Rattle.bd_step.proofs.{Words.{Identity, ObjectTest, Option, Within, ap, are_known_before, follow_of, is_among, no_name, refl, ripen_next, subst, sym, transacted, ℕ, ◌∙◌}, Afterwards.{sent_call, sent_followed, sent_ordered, ripened_ordered}, Meeting.{taken_step}, Refusals.{full_if}, Standing.{numbers_completed}}
 use Rattle.bd_step.proofs.tables.Tables.transact.Goals as goal
 
 pub returns-in-Err-clause-step : goal.returns-in-Err-clause-step

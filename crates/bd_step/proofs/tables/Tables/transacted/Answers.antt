@@ -1,6 +1,4 @@
-use Rattle.std.proofs.Common.{◌+◌}
-use Rattle.bd_space.specs.Delivery.{delivered}
-use Rattle.bd_step.proofs.Stepping.{transacted_full, spam_told, transacted_stands, sent_takes}
+use Rattle.bd_step.proofs.{Words.{delivered, ◌+◌}, Stepping.{transacted_full, spam_told, transacted_stands, sent_takes}}
 use Rattle.bd_step.proofs.tables.Tables.transacted.Goals as goal
 
 pub returns-in-Err-clause-full : goal.returns-in-Err-clause-full

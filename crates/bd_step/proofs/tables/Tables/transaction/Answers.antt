@@ -1,8 +1,4 @@
-use Rattle.bd_step.specs.Meets.{IsAny, IsBy, IsSending}
-use Rattle.std.proofs.Common.{◌∙◌, sym}
-use Rattle.bd_step.proofs.Meeting.{as_step}
-use Rattle.bd_step.proofs.Stacked.{tidy_stacked}
-use Rattle.bd_step.proofs.Stepping.{transaction_stops, transaction_sends}
+use Rattle.bd_step.proofs.{Words.{IsAny, IsBy, IsSending, sym, ◌∙◌}, Meeting.{as_step}, Stacked.{tidy_stacked}, Stepping.{transaction_stops, transaction_sends}}
 use Rattle.bd_step.proofs.tables.Tables.transaction.Goals as goal
 
 pub returns-in-Ok-Err-clause-step : goal.returns-in-Ok-Err-clause-step

@@ -1,16 +1,4 @@
-use Rattle.std.proofs.Common.{◌≡◌, ◌∙◌, Result}
-use Rattle.std.proofs.lemmas.Result.{IfOk-weaker}
-use Rattle.bd_uapi.specs.declared.fault.Cause.{Cause}
-use Rattle.std.proofs.Common.{Some}
-use Rattle.bd_space.specs.Space.{Space}
-use Rattle.bd_space.specs.Words.{and_then}
-use Rattle.bd_space.specs.Seats.{process_in}
-use Rattle.bd_space.specs.Parcels.{sending_of}
-use Rattle.bd_space.specs.Delivery.{Delivery, placed_for}
-use Rattle.bd_space.specs.Transactions.{transaction_check}
-use Rattle.bd_calls.specs.Stacked.{IsStacked}
-use Rattle.bd_step.specs.Stands.{Before}
-use Rattle.bd_step.proofs.Stepping.{no_callee, may_not_call, may_call}
+use Rattle.bd_step.proofs.{Words.{Before, Cause, Delivery, IfOk-weaker, IsStacked, Result, Some, Space, and_then, placed_for, process_in, sending_of, transaction_check, ◌∙◌, ◌≡◌}, Stepping.{no_callee, may_not_call, may_call}}
 use Rattle.bd_step.proofs.tables.Tables.transaction_check.Goals as goal
 
 pub returns-in-Err-clause-computed : goal.returns-in-Err-clause-computed

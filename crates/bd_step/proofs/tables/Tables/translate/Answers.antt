@@ -1,7 +1,4 @@
-use Rattle.std.proofs.Common.{arith, ◌∙◌}
-use Rattle.bd_uapi.specs.Records.{object_bytes}
-use Rattle.bd_space.specs.{Words.{overwritten}, Parcels.{translation, translated}}
-use Rattle.bd_step.proofs.Deliveries.{translated_more, fold_all}
+use Rattle.bd_step.proofs.{Words.{arith, object_bytes, overwritten, translated, translation, ◌∙◌}, Deliveries.{translated_more, fold_all}}
 use Rattle.bd_step.proofs.tables.Tables.translate.Goals as goal
 
 pub loop-x-preserved : goal.loop-x-preserved

@@ -1,9 +1,4 @@
-use Rattle.std.proofs.Common.{ℕ, ◌≡◌, take}
-use Rattle.std.specs.List.{fold}
-use Rattle.bd_space.specs.Space.{Space}
-use Rattle.bd_uapi.specs.Records.{object_bytes}
-use Rattle.bd_space.specs.{Words.{overwritten}, Parcels.{translated}}
-use Rattle.bd_step.specs.Stands.{StandsAt}
+use Rattle.bd_step.proofs.Words.{Space, StandsAt, fold, object_bytes, overwritten, take, translated, ℕ, ◌≡◌}
 use Rattle.bd_step.proofs.tables.Tables.translate.Given as goal
 
 abbrev pub invariant-loop-x : goal.invariant-loop-x

@@ -1,6 +1,4 @@
-use Rattle.std.proofs.Common.{◌≡◌, ◌∙◌, ◌++◌, ap, List, ℕ, take, drop, length, arith}
-use Rattle.std.proofs.Math.Seq.{take-append_seam}
-use Rattle.bd_space.specs.Parcels.{translation}
+use Rattle.bd_step.proofs.Words.{List, ap, arith, drop, length, take, take-append_seam, translation, ℕ, ◌++◌, ◌∙◌, ◌≡◌}
 use Rattle.bd_step.proofs.tables.Tables.translation.Goals as goal
 
 pub returns-clause-translated : goal.returns-clause-translated

@@ -1,5 +1,4 @@
-use Rattle.std.proofs.Common.{ap, ◌∙◌}
-use Rattle.bd_step.specs.Freed.{turn_target}
+use Rattle.bd_step.proofs.Words.{ap, turn_target, ◌∙◌}
 use Rattle.bd_step.proofs.tables.Tables.turn_target_at.Goals as goal
 
 pub returns : goal.returns

@@ -1,6 +1,4 @@
-use Rattle.std.proofs.Common.{ap, Some}
-use Rattle.bd_space.specs.Steps.{with_manager}
-use Rattle.bd_space.specs.declared.step.Identity.{Identity}
+use Rattle.bd_step.proofs.Words.{Identity, Some, ap, with_manager}
 use Rattle.bd_step.proofs.tables.Tables.with_manager.Goals as goal
 
 pub returns-clause-stands : goal.returns-clause-stands

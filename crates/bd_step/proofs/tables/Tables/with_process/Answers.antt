@@ -1,7 +1,4 @@
-use Rattle.std.proofs.Common.{false, ℕ, ◌<◌, ◌++◌, ◌∷◌, [], All, sym, subst}
-use Rattle.bd_space.specs.declared.space.Process.{Process}
-use Rattle.bd_space.specs.Steps.{with_process}
-use Rattle.bd_processes.specs.Stands.{ProcessesAre}
+use Rattle.bd_step.proofs.Words.{All, Process, ProcessesAre, [], false, subst, sym, with_process, ℕ, ◌++◌, ◌<◌, ◌∷◌}
 use Rattle.bd_step.proofs.tables.Tables.with_process.Goals as goal
 
 abbrev process : ℕ → ℕ → ℕ → ℕ → Process

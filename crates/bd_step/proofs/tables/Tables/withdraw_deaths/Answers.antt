@@ -1,15 +1,6 @@
-use Rattle.std.proofs.Common.{rules, not, ◌+◌, ◌||◌, ◌==◌, false, subst, IfSome}
-use Rattle.std.proofs.lemmas.List.Elements.{filter_agree}
-use Rattle.bd_space.specs.declared.space.Work.{Work}
-use Rattle.bd_space.specs.Words.{is_some_and}
-use Rattle.bd_ways.specs.Tables.{Tells}
-use Rattle.bd_space.specs.Todo.{death_of}
-use Rattle.bd_ways.specs.Local.{at_name, is_touched, deaths_go_of, work_goes_of}
-use Rattle.bd_space.specs.Notices.{still_due}
-use Rattle.bd_objects.specs.Stands as objects
+use Rattle.bd_step.proofs.{Words.{IfSome, Tells, Work, at_name, death_of, deaths_followed, deaths_go_of, deaths_withdrawn, false, filter_agree, is_some_and, is_touched, not, rules, still_due, subst, work_goes_of, ◌+◌, ◌==◌, ◌||◌}, Changing.{with_calls}}
 use Rattle.bd_calls.specs.Stands as calls
-use Rattle.bd_step.specs.Following.{deaths_followed, deaths_withdrawn}
-use Rattle.bd_step.proofs.Changing.{with_calls}
+use Rattle.bd_objects.specs.Stands as objects
 use Rattle.bd_step.proofs.tables.Tables.withdraw_deaths.Goals as goal
 
 pub returns-in-None-clause-stands : goal.returns-in-None-clause-stands

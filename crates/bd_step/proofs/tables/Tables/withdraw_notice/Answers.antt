@@ -1,8 +1,4 @@
-use Rattle.std.proofs.Common.{List, subst, true, false}
-use Rattle.bd_space.specs.declared.space.Work.{Work}
-use Rattle.bd_step.specs.Stands.{StandsAt}
-use Rattle.bd_step.proofs.Deliveries.{withdrawn}
-use Rattle.bd_step.proofs.Changing.{with_calls}
+use Rattle.bd_step.proofs.{Words.{List, StandsAt, Work, false, subst, true}, Changing.{with_calls}, Deliveries.{withdrawn}}
 use Rattle.bd_step.proofs.tables.Tables.withdraw_notice.Goals as goal
 
 pub returns-then-takes_notice-clause-stands : goal.returns-then-takes_notice-clause-stands

@@ -1,7 +1,4 @@
-use Rattle.std.proofs.Common.{arith, refl, take}
-use Rattle.std.specs.List.{fold}
-use Rattle.bd_space.specs.Delivery.{withdraw_notice}
-use Rattle.bd_step.proofs.Deliveries.{todo_more, todo_all, only_works}
+use Rattle.bd_step.proofs.{Words.{arith, fold, refl, take, withdraw_notice}, Deliveries.{todo_more, todo_all, only_works}}
 use Rattle.bd_step.proofs.tables.Tables.withdraw_notices.Goals as goal
 
 pub loop-x-preserved : goal.loop-x-preserved

@@ -1,6 +1,4 @@
-use Rattle.std.proofs.Common.{◌∙◌, ap, sym, Some, None}
-use Rattle.std.specs.Prelude.{if◌then◌else◌, option_and_then}
-use Rattle.bd_space.specs.{References.{owned_in}, ProcessExits.{without_process}}
+use Rattle.bd_step.proofs.Words.{None, Some, ap, if◌then◌else◌, option_and_then, owned_in, sym, without_process, ◌∙◌}
 use Rattle.bd_step.proofs.tables.Tables.without_process.Goals as goal
 
 pub returns-clause-stands : goal.returns-clause-stands
