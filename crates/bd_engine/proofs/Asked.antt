@@ -1,15 +1,5 @@
 -- A process asked for exactly what it may give back.
-use Rattle.std.specs.Prelude.{◌≡◌, ℕ, Bool, true, false, not, Option, Some, None}
-use Rattle.std.specs.List.{list_any}
-use Rattle.std.specs.Result.{is_ok}
-use Rattle.std.proofs.Common.{refl}
-use Rattle.bd_uapi.specs.declared.fault.Note.TheVariants.{NoSuchNumber, NothingAsked}
-use Rattle.bd_space.specs.Words.{is_some_and, when, ok_or, unless, and_then}
-use Rattle.bd_space.specs.Space.{Space}
-use Rattle.bd_space.specs.References.{is_asking}
-use Rattle.bd_space.specs.Names.{named}
-use Rattle.bd_space.specs.Asking.{drop_check}
-use Rattle.bd_engine.specs.Looks.{has_asked}
+use Rattle.bd_engine.proofs.Words.{Bool, NoSuchNumber, None, NothingAsked, Option, Some, Space, and_then, drop_check, false, has_asked, is_asking, is_ok, is_some_and, list_any, named, not, ok_or, refl, true, unless, when, ℕ, ◌≡◌}
 
 module _ {A E : Type 0} where
   passed : (o : A) (e : E) (b : Bool) → is_ok (unless (when (not b) e) o) ≡ b

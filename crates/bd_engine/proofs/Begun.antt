@@ -1,19 +1,7 @@
 -- A live engine that begins at a later place.
-use Rattle.std.proofs.Common.{◌≡◌, ◌+◌, ◌≤◌, ◌<◌, ℕ, zero, suc, true, replicate, refl, sym, ap, subst, ◌∙◌, arith}
-use Rattle.std.specs.Prelude.{nat_lt}
-use Rattle.std.specs.List.{list_all}
-use Rattle.std.proofs.lemmas.List.{length-replicate}
-use Rattle.std.proofs.lemmas.Bool.{lt-ltb}
+use Rattle.bd_engine.proofs.Words.{Before, Follows, Live, Tables, actor, after, ap, arith, change, counted, length-replicate, list_all, lt-ltb, nat_lt, opening, refl, refusals, refused_entry, replicate, space_after, subst, suc, sym, true, zero, ℕ, ◌+◌, ◌<◌, ◌∙◌, ◌≡◌, ◌≤◌}
 use Rattle.bd_ways.specs.Words.{Entry, Space}
-use Rattle.bd_space.specs.Space.{opening}
-use Rattle.bd_space.specs.Seats.{actor}
-use Rattle.bd_space.specs.Steps.{change, counted}
-use Rattle.bd_space.specs.Histories.{Follows as EntriesFollow, after, space_after}
-use Rattle.bd_step.specs.declared.tables.Tables.{Tables}
-use Rattle.bd_step.specs.Stands.{Before}
-use Rattle.bd_engine.specs.Begun.{refused_entry, refusals}
-use Rattle.bd_engine.specs.declared.live.Live.{Live}
-use Rattle.bd_engine.specs.Follows.{Follows}
+use Rattle.bd_space.specs.Histories.{Follows as EntriesFollow}
 
 -- the space in which nothing is, after so many steps
 abbrev at : ℕ → Space

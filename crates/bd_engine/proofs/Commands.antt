@@ -1,41 +1,13 @@
 -- One command of a write after another.
-use Rattle.std.proofs.Common.{◌≡◌, ℕ, zero, suc, ◌+◌, ◌-◌, ◌<◌, ◌≤◌, List, [], ◌∷◌, ◌++◌, length, take, drop, Option, Some, None, Result, Ok, Err, true, false, ltb, refl, sym, ap, subst, ◌∙◌, inl, inr, arith, add-one, add-zero, zero-add, add_assoc, append_assoc, length-append, length-drop}
-use Rattle.std.specs.Option.{option_map}
-use Rattle.std.proofs.lemmas.Bool.{le-ltb}
-use Rattle.std.proofs.lemmas.List.{drop-drop, drop_all, append-nil}
-use Rattle.std.proofs.Math.Seq.{take-append_seam}
-use Rattle.bd_uapi.specs.declared.command.Command.{Command}
-use Rattle.bd_uapi.specs.declared.fault.Note.{Note}
-use Rattle.bd_uapi.specs.declared.fault.Fault.{Fault}
-use Rattle.bd_codec.specs.Reading.{command_at}
-use Rattle.bd_space.specs.declared.step.Step.{Step}
-use Rattle.bd_space.specs.declared.step.StepAnswer.{StepAnswer}
+use Rattle.bd_engine.proofs.{Keeping.{after_more}, Words.{AllBy, Answer, Command, Entry, Err, Fault, FullOnly, HasPlace, HasRun, History, HistoryFull, IsNext, IsProgress, IsRun, IsTurnedAway, IsUnrefused, List, MayStop, MemoryOnly, NoMemory, None, Note, Ok, Option, Readable, Result, Run, Some, Space, Step, StepAnswer, StepError, Stop, Write, Written, Wrote, [], add-one, add-zero, add_assoc, after, ap, append-nil, append_assoc, arith, command_at, commands_of, drop, drop-drop, drop_all, extended, false, fault_of, goes_on, inl, inr, is_at_limit, joined, le-ltb, length, length-append, length-drop, ltb, opening, option_map, readable, refl, run, run_of_written, space_after, step, step_after, step_of_command, subst, suc, sym, take, take-append_seam, true, write, write_first, written, wrote, zero, zero-add, ℕ, ◌++◌, ◌+◌, ◌-◌, ◌<◌, ◌∙◌, ◌∷◌, ◌≡◌, ◌≤◌}}
 use Rattle.bd_space.specs.declared.step.StepAnswer.TheVariants as gave
-use Rattle.bd_space.specs.declared.step.Entry.{Entry}
-use Rattle.bd_space.specs.declared.step.Stop.{Stop}
 use Rattle.bd_space.specs.declared.step.Stop.TheVariants as stop
-use Rattle.bd_space.specs.declared.step.Answer.{Answer}
-use Rattle.bd_space.specs.declared.step.Answer.TheVariants.{Wrote}
-use Rattle.bd_space.specs.declared.step.Request.TheVariants.{Write}
-use Rattle.bd_space.specs.Space.{Space, opening}
-use Rattle.bd_space.specs.Steps.{step}
-use Rattle.bd_space.specs.Histories.{History, next, after, space_after, extended, HasPlace, is_at_limit}
-use Rattle.bd_space.specs.Writes.{Readable, readable, commands_of, step_of_command, Written, written, goes_on, wrote, run_of_written, Run, write}
-use Rattle.bd_space.specs.Runs.{run, IsRun, AllBy, HasRun, write_first, step_after, MayStop}
-use Rattle.bd_step.specs.declared.step_error.StepError.{StepError}
-use Rattle.bd_step.specs.declared.step_error.StepError.TheVariants.{NoMemory, HistoryFull}
-use Rattle.bd_engine.specs.Refusals.{FullOnly, MemoryOnly}
-use Rattle.bd_engine.specs.Writing.{IsProgress, IsNext, IsUnrefused, IsTurnedAway, joined, fault_of}
 
 -- ---- one entry more
 
-after_push : (s : Space) (es : List Entry) (e : Entry) → after s (es ++ e ∷ []) ≡ next (after s es) e
-after_push s [] e = refl
-after_push s (x ∷ es) e = after_push (next s x) es e
-
 space_extended : (h : History) (seat : ℕ) (x : Step) (a : StepAnswer) → space_after (extended h seat x a) ≡ (step (space_after h) seat x).space
 unfolding space_after
-space_extended h seat x a = after_push opening h.entries (record { seat = seat; step = x; answer = a })
+space_extended h seat x a = after_more opening h.entries (record { seat = seat; step = x; answer = a })
 
 AllBy_push : (seat : ℕ) (es : List Entry) (e : Entry) → AllBy seat es → e.seat ≡ seat → AllBy seat (es ++ e ∷ [])
 AllBy_push seat [] e h is = (is, tt)

@@ -1,31 +1,9 @@
 -- How a write goes on: with the next command, or not at all.
-use Rattle.std.proofs.Common.{◌≡◌, ◌==◌, ℕ, zero, suc, ◌+◌, ◌-◌, ◌<◌, ◌≤◌, List, [], ◌∷◌, length, length-drop, take, drop, Some, Result, Ok, Err, true, cond, refl, sym, ap, subst, ◌∙◌, arith, add-zero}
-use Rattle.std.specs.Prelude.{MatchResult}
-use Rattle.std.proofs.Math.Dec.{eqb-suc-zero}
-use Rattle.std.proofs.Math.Seq.{take-length}
-use Rattle.std.proofs.lemmas.List.{append-nil}
-use Rattle.bd_uapi.specs.declared.command.Command.{Command}
-use Rattle.bd_uapi.specs.declared.fault.Note.{Note}
-use Rattle.bd_uapi.specs.declared.fault.Fault.{Fault}
-use Rattle.bd_codec.specs.Reading.{command_at}
-use Rattle.bd_codec.specs.Spelling.{command_bytes, IsCommand, Found}
-use Rattle.bd_space.specs.declared.step.StepAnswer.{StepAnswer}
+use Rattle.bd_engine.proofs.{Commands.{cut_short, ended, turned_away, went_on}, Words.{Answer, Command, Course, Ends, Err, Fault, Found, FullOnly, GoesOn, GoesTo, Going, HasCome, HasPlace, HasRun, History, IsAfter, IsCommand, IsCourse, IsCutAt, IsNext, IsProgress, IsSame, IsTurnedAway, List, MatchResult, MemoryOnly, Note, Ok, Progress, Result, Some, Step, StepAnswer, StepError, Write, [], add-zero, ap, append-nil, arith, command_at, command_bytes, cond, course_of, course_or, drop, eqb-suc-zero, extended, fault_of, is_at_limit, length, length-drop, refl, space_after, step, step_of_command, stopped, subst, suc, sym, take, take-length, true, zero, ℕ, ◌+◌, ◌-◌, ◌<◌, ◌==◌, ◌∙◌, ◌∷◌, ◌≡◌, ◌≤◌}}
 use Rattle.bd_space.specs.declared.step.StepAnswer.TheVariants as gave
 use Rattle.bd_space.specs.declared.step.Stop.TheVariants as stop
-use Rattle.bd_space.specs.declared.step.Answer.{Answer}
-use Rattle.bd_space.specs.declared.step.Request.TheVariants.{Write}
-use Rattle.bd_space.specs.Steps.{step}
-use Rattle.bd_space.specs.Histories.{History, space_after, extended, HasPlace, is_at_limit}
-use Rattle.bd_space.specs.Writes.{step_of_command}
-use Rattle.bd_space.specs.Runs.{HasRun}
-use Rattle.bd_step.specs.declared.step_error.StepError.{StepError}
-use Rattle.bd_engine.specs.declared.write.Progress.{Progress}
-use Rattle.bd_engine.specs.declared.write.Going.{Going}
 use Rattle.bd_engine.specs.declared.write.Going.TheVariants as going
-use Rattle.bd_engine.specs.Refusals.{FullOnly, MemoryOnly}
-use Rattle.bd_engine.specs.Writing.{Course, GoesOn, Ends, course_of, course_or, IsSame, GoesTo, IsAfter, IsCutAt, IsProgress, IsTurnedAway, HasCome, IsNext, IsCourse, fault_of, stopped}
 use Rattle.bd_engine.specs.Writing as writing
-use Rattle.bd_engine.proofs.Commands.{turned_away, cut_short, ended, went_on}
 
 pub by_count : {A : Type 0} (P : A → Type 0) (n : ℕ) (a b : A) → (n ≡ 0 → P a) → (0 < n → P b) → P (cond (n == 0) a b)
 by_count P zero a b first later = first refl
@@ -115,10 +93,12 @@ course_cut old now new seat stream area p q c size why r come is_next same kept 
     rw (kept, ← same.consumed) (cut old now seat stream area q (HasCome_same old now seat stream area p q same come) c size next why (course_or q r) is full place) in
     ends_in_brief old new seat stream area q (p.consumed + size) G r (omega (arith, same.consumed, is_next.some)) whole
 
-pub course_on : (old now new : History) (seat : ℕ) (stream area : List ℕ) (p q : Progress) (c : Command) (size : ℕ) (a : StepAnswer) (r : Course)
+pub course_on : (old now new : History) (seat y : ℕ) (stream area : List ℕ) (p q : Progress) (c : Command) (x : Step) (size : ℕ) (a : StepAnswer) (r : Course)
     → HasCome old now seat stream area p → IsNext stream p.consumed c size → IsSame p q → IsAfter q a size r
-    → a ≡ (step (space_after now) seat (step_of_command area c)).answer → new ≡ extended now seat (step_of_command area c) a
+    → a ≡ (step (space_after now) y x).answer → new ≡ extended now y x a → y ≡ seat → x ≡ step_of_command area c
     → IsCourse old new seat stream area (p.consumed + size) r
-course_on old now new seat stream area p q c size a r come is_next same after is grown =
+course_on old now new seat y stream area p q c x size a r come is_next same after is grown seated stepped =
     let next : IsNext stream q.consumed c size = rw same.consumed is_next in
-    rw (← same.consumed) (on old now seat stream area q (HasCome_same old now seat stream area p q same come) c size next new a r after is grown)
+    let said = rw seated at (rw stepped at is) in
+    let longer = rw seated at (rw stepped at grown) in
+    rw (← same.consumed) (on old now seat stream area q (HasCome_same old now seat stream area p q same come) c size next new a r after said longer)

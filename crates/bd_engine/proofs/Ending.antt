@@ -1,15 +1,5 @@
 -- Which buffers end by a step, told after the step.
-use Rattle.std.proofs.Common.{◌≡◌, ℕ, List, map, filter, refl, ap, sym, subst, ◌∙◌}
-use Rattle.bd_space.specs.declared.step.Step.{Step}
-use Rattle.bd_space.specs.declared.step.StepAnswer.{StepAnswer}
-use Rattle.bd_space.specs.declared.step.Entry.{Entry}
-use Rattle.bd_space.specs.declared.space.Buffer.{Buffer}
-use Rattle.bd_space.specs.Space.{Space, opening}
-use Rattle.bd_space.specs.Histories.{History, space_after, extended}
-use Rattle.bd_space.specs.Steps.{change, counted}
-use Rattle.bd_buffers.specs.WindowsStand.{made_of_buffer}
-use Rattle.bd_step.specs.Ending.{is_gone, ended_between, HasEndings}
-use Rattle.bd_engine.proofs.Keeping.{after_more}
+use Rattle.bd_engine.proofs.{Keeping.{after_more}, Words.{Buffer, Entry, HasEndings, History, List, Space, Step, StepAnswer, ap, change, counted, ended_between, extended, filter, is_gone, made_of_buffer, map, opening, refl, space_after, subst, sym, ℕ, ◌∙◌, ◌≡◌}}
 
 after_buffers : (z : Space) → (counted z).buffers ≡ z.buffers
 unfolding counted

@@ -1,12 +1,5 @@
 -- The next handle of the live process with a pid.
-use Rattle.std.proofs.Common.{◌≡◌, ℕ, ap, sym, ◌∙◌}
-use Rattle.std.specs.Prelude.{Option, Some, None, is_some, option_and_then}
-use Rattle.bd_space.specs.Space.{Space}
-use Rattle.bd_space.specs.declared.space.Process.{Process}
-use Rattle.bd_space.specs.Seats.{process_with_pid}
-use Rattle.bd_space.specs.Names.{named, named_in}
-use Rattle.bd_records.specs.Numbers.{IsNextNumber}
-use Rattle.bd_engine.specs.Looks.{IsNextHandle, named_by}
+use Rattle.bd_engine.proofs.Words.{IsNextHandle, IsNextNumber, None, Option, Process, Some, Space, ap, is_some, named, named_by, named_in, option_and_then, process_with_pid, sym, ℕ, ◌∙◌, ◌≡◌}
 
 by_process : (s : Space) (pid n : ℕ) (q : Process) → Some q ≡ process_with_pid s.processes pid → named_by s pid n ≡ named_in s.names q.made n
 unfolding named

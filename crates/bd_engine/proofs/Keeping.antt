@@ -1,23 +1,6 @@
 -- What a live engine follows, from step to step.
-use Rattle.std.proofs.Common.{◌≡◌, ℕ, suc, ◌+◌, ◌<◌, ◌≤◌, Bool, true, false, List, [], ◌∷◌, ◌++◌, length, refl, ap, sym, subst, ◌∙◌, arith, length-append}
-use Rattle.std.specs.Prelude.{nat_lt, nat_le, ◌&&◌, ◌||◌, Some}
-use Rattle.std.proofs.Math.Bool.{or-true}
-use Rattle.std.proofs.lemmas.List.Folds.{list_all-append}
-use Rattle.std.proofs.lemmas.Bool.{lt-ltb, le-leb, leb-true, leb-false}
-use Rattle.bd_space.specs.declared.step.Step.{Step}
-use Rattle.bd_space.specs.declared.step.StepAnswer.{StepAnswer}
-use Rattle.bd_space.specs.declared.step.Entry.{Entry}
-use Rattle.bd_space.specs.Space.{Space, opening}
-use Rattle.bd_space.specs.Names.{has_number_past_limit}
-use Rattle.bd_space.specs.Steps.{change, step, counted}
-use Rattle.bd_space.specs.Histories.{History, Follows as EntriesFollow, EntryFollows, next, after, space_after, extended, is_at_limit, is_at_end, history_of}
-use Rattle.bd_buffers.specs.WindowsStand.{WindowsOf}
-use Rattle.bd_step.specs.declared.tables.Tables.{Tables}
-use Rattle.bd_step.specs.Stands.{Before, Within}
-use Rattle.bd_engine.specs.declared.live.Live.{Live}
-use Rattle.bd_engine.specs.Follows.{Follows}
-use Rattle.bd_objects.proofs.Fitting.{numbers_fit}
-use Rattle.bd_laws.proofs.Machine.Steps.{always_steps}
+use Rattle.bd_engine.proofs.Words.{Before, Bool, Entry, EntryFollows, Follows, History, List, Live, Some, Space, Step, StepAnswer, Tables, WindowsOf, Within, [], after, always_steps, ap, arith, change, counted, extended, false, has_number_past_limit, history_of, is_at_end, is_at_limit, le-leb, leb-false, leb-true, length, length-append, list_all-append, lt-ltb, nat_le, nat_lt, next, numbers_fit, opening, or-true, refl, space_after, step, subst, suc, sym, true, ℕ, ◌&&◌, ◌++◌, ◌+◌, ◌<◌, ◌||◌, ◌∙◌, ◌∷◌, ◌≡◌, ◌≤◌}
+use Rattle.bd_space.specs.Histories.{Follows as EntriesFollow}
 
 pub follows_new : (l : Live) (seats : ℕ) → l.seats ≡ seats → 1 ≤ seats → seats ≤ 65536 → Before l.tables.value opening → Follows l (history_of seats [])
 unfolding space_after

@@ -1,3 +1,4 @@
+mod Words
 pub mod Noting
 pub mod Ending
 pub mod Asked

@@ -1,16 +1,5 @@
 -- Noting the readiness of seats, one after the other.
-use Rattle.std.proofs.Common.{ℕ, ◌≡◌, ◌<◌, ◌≤◌, Bool, true, false, cond, List, [], ◌∷◌, ◌++◌, length, take, get_or, refl, ap, sym, subst, ◌∙◌, arith}
-use Rattle.std.specs.Prelude.{◌==◌, ◌+◌, ◌||◌, not, count_by}
-use mathlib.Core.Bool.{beq}
-use Rattle.std.proofs.Math.Bool.{or-true, or-false}
-use Rattle.std.proofs.Math.ListN.{set}
-use Rattle.std.proofs.lemmas.List.{get_or-set_same, get_or-set_other, take_all}
-use Rattle.std.proofs.lemmas.List.Folds.{list_any-append}
-use Rattle.std.proofs.lemmas.List.Sums.{sum_by-append, sum_by-cons}
-use Rattle.std.proofs.lemmas.Bool.{eqb-true, eq-eqb}
-use Rattle.bd_space.specs.Space.{Space}
-use Rattle.bd_space.specs.Histories.{is_ready}
-use Rattle.bd_engine.specs.Readiness.{has_seat, flipped}
+use Rattle.bd_engine.proofs.Words.{Bool, List, Space, [], ap, arith, beq, cond, count_by, eq-eqb, eqb-true, false, flipped, get_or, get_or-set_other, get_or-set_same, has_seat, is_ready, length, list_any-append, not, or-false, or-true, refl, set, subst, sum_by-append, sum_by-cons, sym, take, take_all, true, ℕ, ◌++◌, ◌+◌, ◌<◌, ◌==◌, ◌||◌, ◌∙◌, ◌∷◌, ◌≡◌, ◌≤◌}
 
 -- a seat, where these seats were looked at
 pub record IsSeen (s : Space) (before noted : List Bool) (changed done : List ℕ) (y : ℕ) : Type 0 where

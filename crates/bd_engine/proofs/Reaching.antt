@@ -1,16 +1,6 @@
 -- Whom a step reached, told by the lists that it filled or emptied.
-use Rattle.std.proofs.Common.{◌≡◌, ℕ, Bool, true, false, not, List, ◌⊎◌, inl, inr, refl, sym, subst, ◌∙◌}
+use Rattle.bd_engine.proofs.{Keeping.{after_more}, Words.{AreReached, Bool, Entry, IsNamed, IsReached, List, OfProcess, OfThread, Space, TheseNameAll, TodoList, differs, false, has_work, inl, inr, is_among, is_filled_or_emptied, is_ready, not, opening, refl, space_after, step, subst, sym, true, whom_reached, ℕ, ◌∙◌, ◌≡◌, ◌⊎◌}}
 use Rattle.std.specs.Bool.{beq}
-use Rattle.bd_space.specs.declared.step.Entry.{Entry}
-use Rattle.bd_space.specs.declared.space.TodoList.{TodoList}
-use Rattle.bd_space.specs.declared.space.TodoList.TheVariants.{OfThread, OfProcess}
-use Rattle.bd_space.specs.Space.{Space, opening}
-use Rattle.bd_space.specs.Histories.{space_after, is_ready}
-use Rattle.bd_space.specs.Steps.{step}
-use Rattle.bd_laws.specs.Reached.{IsReached, is_filled_or_emptied}
-use Rattle.bd_laws.proofs.WhomAStepReaches.Reached.{whom_reached}
-use Rattle.bd_engine.specs.Reached.{AreReached, IsNamed, TheseNameAll, has_work, differs, is_among}
-use Rattle.bd_engine.proofs.Keeping.{after_more}
 
 differs_unless : (a b : Bool) → differs a b ≡ not (beq a b)
 differs_unless true true = refl

@@ -1,24 +1,5 @@
 -- A run of one step, and a write of none.
-use Rattle.std.proofs.Common.{◌≡◌, ℕ, List, [], ◌∷◌, length, Some, Result, Ok, Err, IfOk, IfErr, OnErr, refl, sym, ap, subst, ◌∙◌, inl, ◌<◌, true, ltb, arith}
-use Rattle.std.proofs.lemmas.Bool.{lt-ltb}
-use Rattle.std.proofs.lemmas.List.{append-nil}
-use Rattle.bd_uapi.specs.declared.fault.Fault.TheVariants.{StreamTooLong}
-use Rattle.bd_space.specs.declared.step.Step.{Step}
-use Rattle.bd_space.specs.declared.step.StepAnswer.{StepAnswer}
-use Rattle.bd_space.specs.declared.step.Entry.{Entry}
-use Rattle.bd_space.specs.declared.step.Request.{Request}
-use Rattle.bd_space.specs.declared.step.Request.TheVariants.{Write}
-use Rattle.bd_space.specs.declared.step.Answer.{Answer}
-use Rattle.bd_space.specs.declared.step.Answer.TheVariants.{Refused}
-use Rattle.bd_space.specs.Space.{Space}
-use Rattle.bd_space.specs.Steps.{step}
-use Rattle.bd_space.specs.Histories.{History, space_after, extended, is_at_limit}
-use Rattle.bd_space.specs.Writes.{Run, write}
-use Rattle.bd_space.specs.Runs.{run, single, answered, IsRun, HasRun, HasEntry, IsAtLimit}
-use Rattle.bd_step.specs.declared.step_error.StepError.{StepError}
-use Rattle.bd_engine.specs.declared.run.Ran.{Ran}
-use Rattle.bd_engine.specs.Refusals.{FullOnly}
-use Rattle.bd_engine.specs.Writing.{IsOneStep}
+use Rattle.bd_engine.proofs.Words.{Answer, Entry, Err, FullOnly, HasEntry, HasRun, History, IfErr, IfOk, IsAtLimit, IsOneStep, IsRun, List, Ok, OnErr, Ran, Refused, Request, Result, Run, Some, Space, Step, StepAnswer, StepError, StreamTooLong, Write, [], answered, ap, append-nil, arith, extended, inl, is_at_limit, length, lt-ltb, ltb, refl, run, single, space_after, step, subst, sym, true, write, ℕ, ◌<◌, ◌∙◌, ◌∷◌, ◌≡◌}
 
 pub single_has_run : (old new : History) (seat : ℕ) (x : Step) (a : StepAnswer) (said : Answer) (from to : ℕ) (request : Request)
     → new ≡ extended old seat x a → a ≡ (step (space_after old) seat x).answer → said ≡ answered a → from ≡ length old.entries → to ≡ length new.entries

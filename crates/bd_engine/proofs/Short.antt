@@ -1,26 +1,5 @@
 -- What an engine with a history tells of is of a step of that history (PlacesAreEarlier), whose places have 32 bits.
-use Rattle.std.proofs.Common.{◌≡◌, ℕ, ◌<◌, Bool, List, [], ◌∷◌, Option, Some, None, inl, inr, refl, sym, subst, map, find}
-use Rattle.std.specs.Prelude.{IfSome, length}
-use Rattle.std.specs.Option.{option_map, option_and_then}
-use Rattle.bd_space.specs.declared.step.Identity.{Identity}
-use Rattle.bd_space.specs.declared.space.{Buffer.{Buffer}, Frame.{Frame}, Name.{Name}, Object.{Object}, Process.{Process}, Reference.{Reference}, Thread.{Thread}, Work.{Work}, WorkKind.{WorkKind}}
-use Rattle.bd_space.specs.declared.space.WorkKind.TheVariants.{Reply}
-use Rattle.bd_space.specs.Histories.{History, space_after}
-use Rattle.bd_space.specs.Names.{named}
-use Rattle.bd_space.specs.Seats.{process_with_pid}
-use Rattle.bd_space.specs.Frames.{innermost}
-use Rattle.bd_space.specs.Freeing.{is_made_at}
-use Rattle.bd_space.specs.Returns.{buffer_in}
-use Rattle.bd_space.specs.Todo.{is_on, hands_out}
-use Rattle.bd_space.specs.Words.{first_of}
-use Rattle.bd_space.specs.declared.space.TodoList.TheVariants.{OfThread}
-use Rattle.bd_laws.specs.Lists.{In}
-use Rattle.bd_laws.proofs.Lists.{find_in, in_filter, in_map}
-use Rattle.bd_laws.proofs.Machine.Steps.{always_steps}
-use Rattle.bd_earlier.specs.Places.{IsOfEarlierSteps}
-use Rattle.bd_earlier.proofs.Places.{places_earlier}
-use Rattle.bd_records.specs.Carried.{is_carried_by}
-use Rattle.bd_todo.specs.TodoList.{reply_of, first_reply_in}
+use Rattle.bd_engine.proofs.Words.{Bool, Buffer, Frame, History, Identity, IfSome, In, IsOfEarlierSteps, List, Name, None, Object, OfThread, Option, Process, Reference, Reply, Some, Thread, Work, WorkKind, [], always_steps, buffer_in, find, find_in, first_of, first_reply_in, hands_out, in_filter, in_map, inl, innermost, inr, is_carried_by, is_made_at, is_on, length, map, named, option_and_then, option_map, places_earlier, process_with_pid, refl, reply_of, space_after, subst, sym, ℕ, ◌<◌, ◌∷◌, ◌≡◌}
 use Rattle.bd_engine.specs.Looks as looks
 
 -- ---- what is found is of a list

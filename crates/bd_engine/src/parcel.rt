@@ -4,7 +4,7 @@ ghost use Rattle.std.specs.Prelude.{◌≡◌, ◌+◌, nat_le, length, take, dr
 ghost use Rattle.bd_space.specs.Writes.{parcel_of, parcel_for, step_of_command};
 ghost use Rattle.bd_space.specs.declared.step.Step.TheVariants as step;
 
-use crate::memory::MUCH;
+use crate::memory::{MUCH, leave_much};
 use bd_space::{Bytes, Entry, Parcel, Step, StepAnswer};
 use bd_uapi::{Command, TransactionData};
 use std::alloc::{AllocError, Global};
@@ -126,9 +126,9 @@ fn no_entry() -> Entry {
 #[derive(Drop)]
 pub(crate) struct Sheet {
     // Of the latest without a parcel.
-    pub(crate) bare: Entry,
+    bare: Entry,
     // Of the latest with one, whose memory the next one's is put into.
-    pub(crate) sent: Entry,
+    sent: Entry,
     alloc: Global,
 }
 
@@ -142,42 +142,42 @@ impl Sheet {
         }
     }
 
-    /// Puts the step of a command there, whose parcel is cut from the area: to `sent`, and then it answers true, or to `bare`. Errors:
-    /// memory was refused.
+    /// Puts the step of a command there, whose parcel is cut from the area, and has its entry. Errors: memory was refused.
     #[inline(always)]
     pub(crate) fn put(
         &mut self,
         seat: u32,
         area: &[u8],
         command: Command,
-    ) -> Result<bool, AllocError>
-        ensures sent { IfOk result (λ sent. sent ≡ true
-            → (self.new.sent.seat ≡ seat) × (self.new.sent.step ≡ step_of_command area.now command)) }
-        ensures bare { IfOk result (λ sent. sent ≡ false
-            → (self.new.bare.seat ≡ seat) × (self.new.bare.step ≡ step_of_command area.now command)) }
+    ) -> Result<&mut Entry, AllocError>
+        ensures seat { IfOk result (λ entry. entry.now.seat ≡ seat) }
+        ensures step { IfOk result (λ entry. entry.now.step ≡ step_of_command area.now command) }
     {
         match cut(area, &command) {
             None => {
                 self.bare.seat = seat;
                 put_bare(&mut self.bare.step, command);
-                Ok(false)
+                Ok(&mut self.bare)
             }
             Some((data, offsets)) => {
                 self.sent.seat = seat;
                 put_sent(self.alloc, &mut self.sent.step, command, data, offsets)?;
-                Ok(true)
+                Ok(&mut self.sent)
             }
         }
     }
 
-    /// Gives up the memory of the parcel, where it is much.
+    /// Gives up the memory of the parcels that were cut from this area, where it is much.
     #[inline(always)]
-    pub(crate) fn leave_much(&mut self) {
+    pub(crate) fn leave_much(&mut self, area: &[u8]) {
+        // Of a part of a smaller area there isn't much.
+        if area.len() <= MUCH {
+            return;
+        }
         if let Step::Command { command: _, parcel } = &mut self.sent.step {
             if let Some(there) = parcel {
-                if MUCH < there.bytes.len() || MUCH < there.offsets.len() {
-                    *parcel = None;
-                }
+                leave_much(self.alloc, &mut there.bytes);
+                leave_much(self.alloc, &mut there.offsets);
             }
         }
     }

@@ -130,25 +130,8 @@ impl Reading {
     // The next read uses the spare memory, if there is some.
     #[inline(always)]
     fn put_spare(&mut self) {
-        if !has_memory(&self.spare) {
-            return;
-        }
-        if let StepAnswer::Got {
-            stream,
-            bytes,
-            offsets,
-        } = &mut self.spare
-        {
-            if let StepAnswer::Got {
-                stream: returns,
-                bytes: data,
-                offsets: objects,
-            } = &mut self.entry.answer
-            {
-                swap(stream, returns);
-                swap(bytes, data);
-                swap(offsets, objects);
-            }
+        if has_memory(&self.spare) {
+            swap(&mut self.spare, &mut self.entry.answer);
         }
     }
 

@@ -15,13 +15,12 @@ ghost use Rattle.bd_engine.specs.Writing.{Ends, course_of, course_or, ended, is_
 ghost use Rattle.bd_space.specs.declared.step.Answer.TheVariants.{Wrote};
 
 use crate::engine::Engine;
-use crate::memory::MUCH;
 use crate::parcel::Sheet;
 use crate::reading::Reading;
 use crate::run::Span;
 use crate::wide::WideEngine;
 use bd_codec::read_command;
-use bd_space::{Answer, Notes, Stop};
+use bd_space::{Answer, Entry, Notes, Stop};
 use bd_step::{Brief, Plain, StepError};
 use bd_uapi::{Command, Fault, Note};
 use std::alloc::{AllocError, Global};
@@ -113,12 +112,24 @@ impl Progress {
         }
     }
 
-    // Makes room for one more note.
-    fn reserve(&mut self) -> Result<(), AllocError>
+    // Makes room for one more note, so that no step that is made is lost, and puts the step of a command where it is to be made.
+    // Errors: memory was refused.
+    #[inline(always)]
+    fn prepare<'a>(
+        &mut self,
+        seat: u32,
+        area: &[u8],
+        command: Command,
+        sheet: &'a mut Sheet,
+    ) -> Result<&'a mut Entry, AllocError>
         ensures same { IsSame self.old self.new }
         ensures room { OnOk result (vec_len self.new.notes < vec_capacity self.new.notes) }
+        ensures seat { IfOk result (λ entry. entry.now.seat ≡ seat) }
+        ensures step { IfOk result (λ entry. entry.now.step ≡ step_of_command area.now command) }
     {
-        self.notes.reserve(1)
+        let entry = sheet.put(seat, area, command)?;
+        self.notes.reserve(1)?;
+        Ok(entry)
     }
 
     // Notes why the command at hand changed nothing.
@@ -236,50 +247,6 @@ impl WideEngine {
         }
     }
 
-    // Makes the step of a command, which these bytes spell. There is room for its note by then, so that no step that was made is lost.
-    #[inline(always)]
-    fn attempt(
-        &mut self,
-        seat: u32,
-        area: &[u8],
-        command: Command,
-        spelled: &[u8],
-        progress: &mut Progress,
-        sheet: &mut Sheet,
-    ) -> Result<Brief, StepError>
-        requires seat { seat < self.old.seats }
-        requires spelled { IsSpelled command spelled.now }
-        ensures same { IsSame progress.old progress.new }
-        ensures room { OnOk result (vec_len progress.new.notes < vec_capacity progress.new.notes) }
-        ensures answer { IfOk result
-            (λ x. IsBrief x (steps.step (space_after self.old) seat (step_of_command area.now command)).answer) }
-        ensures history { OnOk result (self.new ≡ extended self.old seat (step_of_command area.now command)
-            (steps.step (space_after self.old) seat (step_of_command area.now command)).answer) }
-        ensures err { OnErr result (self.new ≡ self.old) }
-        ensures full { IfErr result
-            (λ why. FullOnly why (is_at_limit self.old seat (Some (step_of_command area.now command)) ≡ true)) }
-        ensures memory { IfErr result (λ why. MemoryOnly why (HasPlace self.old)) }
-    {
-        if progress.reserve().is_err() {
-            return Err(self.without_memory());
-        }
-        match sheet.put(seat, area, command) {
-            Err(AllocError) => {
-                sheet.leave_much();
-                Err(self.without_memory())
-            }
-            Ok(false) => self.step_in_place(&mut sheet.bare, spelled),
-            Ok(true) => {
-                let made = self.step_in_place(&mut sheet.sent, spelled);
-                // Both parts are of the area.
-                if MUCH < area.len() {
-                    sheet.leave_much();
-                }
-                made
-            }
-        }
-    }
-
     // Runs one command after the other, up to one that ends the write.
     #[inline(always)]
     fn run_each(
@@ -301,16 +268,17 @@ impl WideEngine {
         'commands: while (progress.consumed as usize) < stream.len() {
             match progress.next(stream) {
                 Err(fault) => return Ok(Going::Stops(Stop::Fault(fault))),
-                Ok((command, spelled)) => {
-                    match self.attempt(seat, area, command, spelled, progress, sheet) {
+                Ok((command, spelled)) => match progress.prepare(seat, area, command, sheet) {
+                    Err(AllocError) => return progress.cut_short(self.without_memory()),
+                    Ok(entry) => match self.step_in_place(entry, spelled) {
                         Err(why) => return progress.cut_short(why),
                         Ok(answer) => match progress.after(answer, spelled.len() as u32) {
                             Going::On => {}
                             Going::Stops(stop) => return Ok(Going::Stops(stop)),
                             Going::Refused(fault) => return Ok(Going::Refused(fault)),
                         },
-                    }
-                }
+                    },
+                },
             }
         }
         Ok(Going::On)
@@ -342,7 +310,9 @@ impl Engine {
         }
         self.progress.begin();
         let wide = &mut self.wide;
-        match wide.run_each(seat, stream, area, &mut self.progress, &mut self.command) {
+        let ran = wide.run_each(seat, stream, area, &mut self.progress, &mut self.command);
+        self.command.leave_much(area);
+        match ran {
             Err(why) => Err(why),
             Ok(going) => {
                 self.progress.tell(going, told, &mut self.reading);

@@ -1,9 +1,4 @@
-use Rattle.std.proofs.Common.{subst}
-use Rattle.std.specs.Prelude.{IfOk, IfErr}
-use Rattle.bd_space.specs.Histories.{History}
-use Rattle.bd_space.specs.Runs.{HasRun, IsAtLimit}
-use Rattle.bd_engine.specs.Refusals.{FullOnly}
-use Rattle.bd_engine.proofs.Runs.{one_some, one_full}
+use Rattle.bd_engine.proofs.{Runs.{one_full, one_some}, Words.{FullOnly, HasRun, History, IfErr, IfOk, IsAtLimit, subst}}
 use Rattle.bd_engine.proofs.engine.Engine.run_in.Goals as goal
 
 pub returns-in-Some-clause-ok : goal.returns-in-Some-clause-ok

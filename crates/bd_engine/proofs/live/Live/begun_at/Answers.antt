@@ -1,9 +1,4 @@
-use Rattle.std.proofs.Common.{◌<◌, arith, refl, sym, subst}
-use Rattle.bd_space.specs.Space.{opening}
-use Rattle.bd_space.specs.Histories.{space_after}
-use Rattle.bd_step.specs.declared.tables.Tables.{Tables}
-use Rattle.bd_step.specs.Stands.{Before}
-use Rattle.bd_engine.proofs.Begun.{begins_at}
+use Rattle.bd_engine.proofs.{Begun.{begins_at}, Words.{Before, Tables, arith, opening, refl, space_after, subst, sym, ◌<◌}}
 use Rattle.bd_engine.proofs.live.Live.begun_at.Goals as goal
 
 pub returns-in-Ok-clause-follows : goal.returns-in-Ok-clause-follows

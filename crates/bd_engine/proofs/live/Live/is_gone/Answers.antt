@@ -1,7 +1,4 @@
-use Rattle.std.proofs.Common.{ap}
-use Rattle.std.specs.Prelude.{is_none}
-use Rattle.bd_space.specs.declared.space.Buffer.{Buffer}
-use Rattle.std.specs.Prelude.{Option}
+use Rattle.bd_engine.proofs.Words.{Buffer, Option, ap, is_none}
 use Rattle.bd_engine.proofs.live.Live.is_gone.Goals as goal
 
 pub returns-in-None : goal.returns-in-None

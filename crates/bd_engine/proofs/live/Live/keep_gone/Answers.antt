@@ -1,7 +1,4 @@
-use Rattle.std.proofs.Common.{rules}
-use Rattle.std.proofs.lemmas.Fn.{filter_same}
-use Rattle.bd_space.specs.Histories.{space_after}
-use Rattle.bd_step.specs.Ending.{is_gone}
+use Rattle.bd_engine.proofs.Words.{filter_same, is_gone, rules, space_after}
 use Rattle.bd_engine.proofs.live.Live.keep_gone.Goals as goal
 
 pub returns : goal.returns

@@ -1,10 +1,4 @@
-use Rattle.std.proofs.Common.{refl, sym, subst}
-use Rattle.bd_space.specs.Histories.{space_after}
-use Rattle.bd_step.specs.declared.tables.Tables.{Tables}
-use Rattle.bd_step.specs.Stands.{Before}
-use Rattle.bd_engine.proofs.Keeping.{follows_kept}
-use Rattle.bd_step.proofs.Changing.{with_calls}
-use Rattle.bd_calls.specs.Told.{Recalls}
+use Rattle.bd_engine.proofs.{Keeping.{follows_kept}, Words.{Before, Recalls, Tables, refl, space_after, subst, sym, with_calls}}
 use Rattle.bd_engine.proofs.live.Live.keep_ready.Goals as goal
 
 pub returns-clause-follows : goal.returns-clause-follows

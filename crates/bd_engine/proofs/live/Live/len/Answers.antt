@@ -1,5 +1,4 @@
-use Rattle.std.proofs.Common.{sym, ◌∙◌}
-use Rattle.bd_engine.proofs.Keeping.{place}
+use Rattle.bd_engine.proofs.{Keeping.{place}, Words.{sym, ◌∙◌}}
 use Rattle.bd_engine.proofs.live.Live.len.Goals as goal
 
 pub returns : goal.returns

@@ -1,6 +1,4 @@
-use Rattle.std.proofs.Common.{◌≤◌, length, arith}
-use Rattle.std.proofs.lemmas.Bool.{le-leb}
-use Rattle.bd_engine.proofs.Keeping.{place, end_at_length}
+use Rattle.bd_engine.proofs.{Keeping.{end_at_length, place}, Words.{arith, le-leb, length, ◌≤◌}}
 use Rattle.bd_engine.proofs.live.Live.list_endings.Goals as goal
 
 pub returns-then-tables-clause-full : goal.returns-then-tables-clause-full

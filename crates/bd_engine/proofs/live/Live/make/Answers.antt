@@ -1,13 +1,4 @@
-use Rattle.std.proofs.Common.{ℕ, ◌≡◌, ◌+◌, ◌≤◌, ◌<◌, length, arith, refl, ap, sym, subst}
-use Rattle.std.proofs.lemmas.Bool.{le-leb}
-use Rattle.bd_space.specs.Histories.{HasLivePlace, space_after}
-use Rattle.bd_laws.proofs.Always.{always_tidy}
-use Rattle.bd_step.specs.declared.tables.Tables.{Tables}
-use Rattle.bd_step.specs.Stands.{Before}
-use Rattle.bd_laws.proofs.Machine.Steps.{change_steps}
-use Rattle.bd_step.proofs.Refusals.{full_as, memory_if}
-use Rattle.bd_engine.proofs.Keeping.{follows_step, follows_kept, place, end_at_length, end_by_number}
-use Rattle.bd_calls.specs.Told.{Recalls}
+use Rattle.bd_engine.proofs.{Keeping.{end_at_length, end_by_number, follows_kept, follows_step, place}, Words.{Before, HasLivePlace, Recalls, Tables, always_tidy, ap, arith, change_steps, full_as, le-leb, length, memory_if, refl, space_after, subst, sym, ℕ, ◌+◌, ◌<◌, ◌≡◌, ◌≤◌}}
 use Rattle.bd_engine.proofs.live.Live.make.Goals as goal
 
 pub returns-in_default-clause-full : goal.returns-in_default-clause-full

@@ -1,8 +1,4 @@
-use Rattle.std.proofs.Common.{arith, refl, sym, subst}
-use Rattle.bd_space.specs.Space.{opening}
-use Rattle.bd_step.specs.declared.tables.Tables.{Tables}
-use Rattle.bd_step.specs.Stands.{Before}
-use Rattle.bd_engine.proofs.Keeping.{follows_new}
+use Rattle.bd_engine.proofs.{Keeping.{follows_new}, Words.{Before, Tables, arith, opening, refl, subst, sym}}
 use Rattle.bd_engine.proofs.live.Live.new.Goals as goal
 
 pub returns-in-Ok-clause-follows : goal.returns-in-Ok-clause-follows

@@ -1,10 +1,5 @@
-use Rattle.std.proofs.Common.{rules, ◌≡◌, ◌<◌, [], ◌∷◌, ◌++◌, false, refl, arith, ap, subst, ◌∙◌, get_or, take, length}
-use Rattle.std.proofs.lemmas.List.{take_more}
-use Rattle.std.proofs.lemmas.List.Elements.{All-same, All-push}
-use Rattle.bd_space.specs.Histories.{space_after, is_ready}
-use Rattle.bd_engine.proofs.Noting.{seen_same, seen_other, seen_none, seen_whole, seen_all, seen_as, differ, agree}
+use Rattle.bd_engine.proofs.{Noting.{agree, differ, seen_all, seen_as, seen_none, seen_other, seen_same, seen_whole}, live.Live.note_ready.Goals.{else-at-noted, then-at-noted+else-noted-at, then-at-noted+then-noted-at}, Words.{All-push, All-same, [], ap, arith, false, get_or, is_ready, length, refl, rules, space_after, subst, take, take_more, ◌++◌, ◌<◌, ◌∙◌, ◌∷◌, ◌≡◌}}
 use Rattle.bd_engine.proofs.live.Live.note_ready.Goals as goal
-use Rattle.bd_engine.proofs.live.Live.note_ready.Goals.{then-at-noted+then-noted-at, then-at-noted+else-noted-at, else-at-noted}
 
 pub loop-i-init : goal.loop-i-init
 loop-i-init c = record {

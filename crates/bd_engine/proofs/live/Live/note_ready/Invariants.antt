@@ -1,7 +1,4 @@
-use Rattle.std.proofs.Common.{ℕ, ◌≡◌, ◌+◌, ◌-◌, ◌<◌, ◌≤◌, All, length, take, vec_len, vec_capacity}
-use Rattle.bd_space.specs.Histories.{History, space_after}
-use Rattle.bd_engine.specs.Follows.{Follows}
-use Rattle.bd_engine.proofs.Noting.{IsSeen}
+use Rattle.bd_engine.proofs.{Noting.{IsSeen}, Words.{All, Follows, History, length, space_after, take, vec_capacity, vec_len, ℕ, ◌+◌, ◌-◌, ◌<◌, ◌≡◌, ◌≤◌}}
 use Rattle.bd_engine.proofs.live.Live.note_ready.Given as goal
 
 abbrev pub invariant-loop-i : goal.invariant-loop-i

@@ -1,5 +1,4 @@
-use Rattle.bd_space.specs.Histories.{extended}
-use Rattle.bd_engine.proofs.Ending.{then_ended}
+use Rattle.bd_engine.proofs.{Ending.{then_ended}, Words.{extended}}
 use Rattle.bd_engine.proofs.live.Live.step_with_ended.Goals as goal
 
 pub returns-in-Ok-step-clause-ended : goal.returns-in-Ok-step-clause-ended

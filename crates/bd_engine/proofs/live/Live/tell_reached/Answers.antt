@@ -1,16 +1,4 @@
-use Rattle.std.proofs.Common.{ℕ, ◌≤◌, Bool, ◌≡◌, Result, Ok, Err, refl, ap, sym, subst, ◌∙◌, arith}
-use Rattle.std.specs.Prelude.{OnErr}
-use Rattle.std.proofs.lemmas.Result.{IfOk-weaker, on_ok_weaker, on_err_weaker}
-use Rattle.bd_space.specs.declared.space.TodoList.{TodoList}
-use Rattle.bd_space.specs.Histories.{History, space_after}
-use Rattle.bd_calls.specs.declared.table.CallTable.{CallTable}
-use Rattle.bd_calls.specs.Told.{Recalls, HasRoomToTell, knows_all}
-use Rattle.bd_step.specs.declared.tables.Tables.{Tables}
-use Rattle.bd_step.specs.Stands.{Before}
-use Rattle.bd_step.proofs.Changing.{with_calls}
-use Rattle.bd_engine.specs.declared.live.Live.{Live}
-use Rattle.bd_engine.specs.Follows.{Follows}
-use Rattle.bd_engine.proofs.Keeping.{follows_kept}
+use Rattle.bd_engine.proofs.{Keeping.{follows_kept}, Words.{Before, Bool, CallTable, Err, Follows, HasRoomToTell, History, IfOk-weaker, Live, Ok, OnErr, Recalls, Result, Tables, TodoList, ap, arith, knows_all, on_err_weaker, on_ok_weaker, refl, space_after, subst, sym, with_calls, ℕ, ◌∙◌, ◌≡◌, ◌≤◌}}
 use Rattle.bd_engine.proofs.live.Live.tell_reached.Goals as goal
 
 -- what is behind the pointer stands for the space, and recalls what was told

@@ -1,4 +1,4 @@
-use Rattle.bd_space.specs.Histories.{space_after}
+use Rattle.bd_engine.proofs.Words.{space_after}
 use Rattle.bd_engine.proofs.looks.Looks.first_reply.Goals as goal
 
 pub returns : goal.returns

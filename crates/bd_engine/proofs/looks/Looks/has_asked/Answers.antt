@@ -1,7 +1,4 @@
-use Rattle.std.specs.Result.{is_ok}
-use Rattle.std.proofs.Common.{ap, ◌∙◌}
-use Rattle.bd_space.specs.Histories.{space_after}
-use Rattle.bd_engine.proofs.Asked.{asked}
+use Rattle.bd_engine.proofs.{Asked.{asked}, Words.{ap, is_ok, space_after, ◌∙◌}}
 use Rattle.bd_engine.proofs.looks.Looks.has_asked.Goals as goal
 
 pub returns : goal.returns

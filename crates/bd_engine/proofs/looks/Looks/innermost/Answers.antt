@@ -1,10 +1,4 @@
-use Rattle.std.proofs.Common.{ap, sym, ◌∙◌}
-use Rattle.std.specs.Prelude.{option_map, Some}
-use Rattle.bd_space.specs.Histories.{space_after}
-use Rattle.bd_space.specs.declared.space.Frame.{Frame}
-use Rattle.bd_space.specs.Frames.{serves}
-use Rattle.bd_laws.proofs.Always.{always_tidy}
-use Rattle.bd_step.proofs.Stacked.{tidy_stacked}
+use Rattle.bd_engine.proofs.Words.{Frame, Some, always_tidy, ap, option_map, serves, space_after, sym, tidy_stacked, ◌∙◌}
 use Rattle.bd_engine.proofs.looks.Looks.innermost.Goals as goal
 
 pub returns-in-Some : goal.returns-in-Some

@@ -1,4 +1,4 @@
-use Rattle.std.proofs.Common.{sym}
+use Rattle.bd_engine.proofs.Words.{sym}
 use Rattle.bd_engine.proofs.looks.Looks.manager.Goals as goal
 
 pub returns : goal.returns

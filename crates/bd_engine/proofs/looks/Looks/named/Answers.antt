@@ -1,8 +1,4 @@
-use Rattle.std.proofs.Common.{ap, sym, ◌∙◌}
-use Rattle.std.specs.Prelude.{option_and_then}
-use Rattle.bd_space.specs.Histories.{space_after}
-use Rattle.bd_space.specs.declared.space.Process.{Process}
-use Rattle.bd_space.specs.Names.{named}
+use Rattle.bd_engine.proofs.Words.{Process, ap, named, option_and_then, space_after, sym, ◌∙◌}
 use Rattle.bd_engine.proofs.looks.Looks.named.Goals as goal
 
 pub returns-in-Some : goal.returns-in-Some

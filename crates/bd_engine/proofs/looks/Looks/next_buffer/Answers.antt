@@ -1,5 +1,4 @@
-use Rattle.bd_space.specs.Histories.{space_after}
-use Rattle.bd_buffers.proofs.WindowLaws.{stands_in}
+use Rattle.bd_engine.proofs.Words.{space_after, stands_in}
 use Rattle.bd_engine.proofs.looks.Looks.next_buffer.Goals as goal
 
 pub returns : goal.returns

@@ -1,6 +1,4 @@
-use Rattle.std.proofs.Common.{sym, ◌∙◌}
-use Rattle.bd_space.specs.Histories.{space_after}
-use Rattle.bd_engine.proofs.Handles.{next_of, none_of_nobody}
+use Rattle.bd_engine.proofs.{Handles.{next_of, none_of_nobody}, Words.{space_after, sym, ◌∙◌}}
 use Rattle.bd_engine.proofs.looks.Looks.next_handle.Goals as goal
 
 pub returns-in-Some : goal.returns-in-Some

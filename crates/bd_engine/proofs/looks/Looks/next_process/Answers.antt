@@ -1,7 +1,4 @@
-use Rattle.std.proofs.Common.{ap, sym, ◌∙◌}
-use Rattle.std.specs.Prelude.{option_map}
-use Rattle.bd_space.specs.Histories.{space_after}
-use Rattle.bd_space.specs.declared.space.Process.{Process}
+use Rattle.bd_engine.proofs.Words.{Process, ap, option_map, space_after, sym, ◌∙◌}
 use Rattle.bd_engine.proofs.looks.Looks.next_process.Goals as goal
 
 pub returns-in-Some : goal.returns-in-Some

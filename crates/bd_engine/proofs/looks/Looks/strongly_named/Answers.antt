@@ -1,4 +1,4 @@
-use Rattle.bd_space.specs.Histories.{space_after}
+use Rattle.bd_engine.proofs.Words.{space_after}
 use Rattle.bd_engine.proofs.looks.Looks.strongly_named.Goals as goal
 
 pub returns : goal.returns

@@ -1,7 +1,4 @@
-use Rattle.std.proofs.Common.{List, inl, inr, refl, sym, subst, arith}
-use Rattle.bd_space.specs.declared.step.Identity.{Identity}
-use Rattle.bd_laws.specs.Lists.{In}
-use Rattle.bd_engine.proofs.narrow.ShortObjectsIterator.next.Goals.{in-Some, in-None}
+use Rattle.bd_engine.proofs.{narrow.ShortObjectsIterator.next.Goals.{in-None, in-Some}, Words.{Identity, In, List, arith, inl, inr, refl, subst, sym}}
 use Rattle.bd_engine.proofs.narrow.ShortObjectsIterator.next.Goals as goal
 
 pub overflow_cast-result : goal.overflow_cast-result

@@ -1,7 +1,4 @@
-use Rattle.std.proofs.Common.{◌<◌, length, sym, subst, arith, Option}
-use Rattle.std.specs.Prelude.{IfSome}
-use Rattle.bd_space.specs.declared.step.Identity.{Identity}
-use Rattle.bd_engine.proofs.Short.{receiver_short, target_short}
+use Rattle.bd_engine.proofs.{Short.{receiver_short, target_short}, Words.{Identity, IfSome, Option, arith, length, subst, sym, ◌<◌}}
 use Rattle.bd_engine.proofs.wide.WideEngine.buffer.Goals as goal
 
 pub short-requires : goal.short-requires

@@ -1,5 +1,4 @@
-use Rattle.std.proofs.Common.{sym, ◌∙◌}
-use Rattle.bd_engine.proofs.Short.{innermost_short}
+use Rattle.bd_engine.proofs.{Short.{innermost_short}, Words.{sym, ◌∙◌}}
 use Rattle.bd_engine.proofs.wide.WideEngine.innermost.Goals as goal
 
 pub short-requires : goal.short-requires

@@ -1,7 +1,4 @@
-use Rattle.std.proofs.Common.{◌<◌, Option, length, sym, subst}
-use Rattle.bd_space.specs.declared.step.Identity.{Identity}
-use Rattle.std.specs.Prelude.{IfSome}
-use Rattle.bd_engine.proofs.Short.{manager_short}
+use Rattle.bd_engine.proofs.{Short.{manager_short}, Words.{Identity, IfSome, Option, length, subst, sym, ◌<◌}}
 use Rattle.bd_engine.proofs.wide.WideEngine.manager.Goals as goal
 
 pub short_id-requires : goal.short_id-requires

@@ -1,6 +1,4 @@
-use Rattle.std.proofs.Common.{ℕ, ◌<◌, Option, length, sym, subst}
-use Rattle.std.specs.Prelude.{IfSome}
-use Rattle.bd_engine.proofs.Short.{process_short}
+use Rattle.bd_engine.proofs.{Short.{process_short}, Words.{IfSome, Option, length, subst, sym, ℕ, ◌<◌}}
 use Rattle.bd_engine.proofs.wide.WideEngine.process_of.Goals as goal
 
 pub short_place-requires : goal.short_place-requires

@@ -1,5 +1,4 @@
-use Rattle.std.proofs.Common.{ap, ◌∙◌}
-use Rattle.bd_space.specs.Histories.{ready_bits, ready_below, space_after, History}
+use Rattle.bd_engine.proofs.Words.{History, ap, ready_below, ready_bits, space_after, ◌∙◌}
 use Rattle.bd_engine.proofs.wide.WideEngine.ready.Goals as goal
 
 pub returns-clause-page : goal.returns-clause-page

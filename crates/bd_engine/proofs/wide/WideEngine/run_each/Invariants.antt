@@ -1,5 +1,4 @@
-use Rattle.std.proofs.Common.{◌-◌, length}
-use Rattle.bd_engine.specs.Writing.{HasCome}
+use Rattle.bd_engine.proofs.Words.{HasCome, length, ◌-◌}
 use Rattle.bd_engine.proofs.wide.WideEngine.run_each.Given as goal
 
 abbrev pub invariant-commands : goal.invariant-commands

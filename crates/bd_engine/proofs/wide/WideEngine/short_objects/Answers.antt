@@ -1,7 +1,4 @@
-use Rattle.std.proofs.Common.{subst, arith, List}
-use Rattle.bd_space.specs.declared.step.Identity.{Identity}
-use Rattle.bd_laws.specs.Lists.{In}
-use Rattle.bd_engine.proofs.Short.{carried_short}
+use Rattle.bd_engine.proofs.{Short.{carried_short}, Words.{Identity, In, List, arith, subst}}
 use Rattle.bd_engine.proofs.wide.WideEngine.short_objects.Goals as goal
 
 pub invariant_of-result : goal.invariant_of-result

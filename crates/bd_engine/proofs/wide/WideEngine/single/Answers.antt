@@ -1,5 +1,4 @@
-use Rattle.std.proofs.Common.{refl}
-use Rattle.bd_engine.proofs.Runs.{single_has_run}
+use Rattle.bd_engine.proofs.{Runs.{single_has_run}, Words.{refl}}
 use Rattle.bd_engine.proofs.wide.WideEngine.single.Goals as goal
 
 pub returns-in-Ok-clause-ok : goal.returns-in-Ok-clause-ok

@@ -1,13 +1,5 @@
-use Rattle.std.proofs.Common.{◌≡◌, ◌≤◌, ◌++◌, ◌∷◌, [], List, Some, Result, Ok, Err, OnOk, true, false, is_err, length, sym, ap, subst, ◌∙◌, arith, length-append}
-use Rattle.bd_space.specs.declared.step.Entry.{Entry}
-use Rattle.bd_space.specs.declared.step.Step.{Step}
-use Rattle.bd_space.specs.Histories.{History, history_of, is_at_limit, space_after}
+use Rattle.bd_engine.proofs.{Keeping.{follows_entered, full_at_length, limit_at_end, short_of_full}, Words.{Entry, Err, Follows, FollowsShort, FullOnly, History, IsBlock, IsStep, List, Ok, OnOk, Result, Some, Step, [], ap, arith, false, full_as, history_of, is_at_limit, is_err, length, length-append, space_after, step_bytes, subst, sym, true, ◌++◌, ◌∙◌, ◌∷◌, ◌≡◌, ◌≤◌}}
 use Rattle.bd_space.specs.Steps as steps
-use Rattle.bd_spelling.specs.Spelling.{IsStep, IsBlock, step_bytes}
-use Rattle.bd_engine.specs.Refusals.{FullOnly}
-use Rattle.bd_engine.specs.Follows.{Follows, FollowsShort}
-use Rattle.bd_engine.proofs.Keeping.{follows_entered, full_at_length, limit_at_end, short_of_full}
-use Rattle.bd_step.proofs.Refusals.{full_as}
 use Rattle.bd_engine.proofs.wide.WideEngine.step_in_place.Goals as goal
 
 of_ok : {T E P : Type 0} (r : Result T E) → is_err r ≡ false → OnOk r P → P

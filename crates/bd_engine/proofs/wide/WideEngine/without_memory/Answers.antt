@@ -1,5 +1,4 @@
-use Rattle.std.proofs.Common.{sym, ◌∙◌}
-use Rattle.bd_engine.proofs.Keeping.{full_at_length}
+use Rattle.bd_engine.proofs.{Keeping.{full_at_length}, Words.{sym, ◌∙◌}}
 use Rattle.bd_engine.proofs.wide.WideEngine.without_memory.Goals as goal
 
 pub returns-then-is_full-clause-full : goal.returns-then-is_full-clause-full

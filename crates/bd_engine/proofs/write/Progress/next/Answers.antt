@@ -1,7 +1,4 @@
-use Rattle.std.proofs.Common.{sym, subst}
-use Rattle.std.proofs.lemmas.List.{length-take-le}
-use Rattle.bd_engine.specs.Writing.{IsNext}
-use Rattle.bd_engine.proofs.Courses.{next_read, next_fault}
+use Rattle.bd_engine.proofs.{Courses.{next_fault, next_read}, Words.{IsNext, length-take-le, subst, sym}}
 use Rattle.bd_engine.proofs.write.Progress.next.Goals as goal
 
 pub returns-in-Ok-clause-read : goal.returns-in-Ok-clause-read
