@@ -2,19 +2,13 @@
 
 ghost use Rattle.std.specs.{Prelude.{◌≡◌, List, map}, Iterator.{YieldsFirst, item_count}};
 ghost use Rattle.bd_space.specs.{declared.step.Identity.{Identity}};
-ghost use Rattle.bd_records.specs.Carried.{is_carried_by, carried_in};
+ghost use Rattle.bd_records.specs.Carried.{carried_in};
 
 use crate::lying::Lying;
 use crate::records::Records;
 use bd_chains::Items;
 use bd_space::{Holder, Identity};
 use std::marker::Model;
-
-fn is_carried_by(made: u64, holder: Holder) -> bool
-    ensures { result ≡ is_carried_by made holder }
-{
-    matches!(holder, Holder::Carried(b, _) if b == made)
-}
 
 /// The objects that a buffer carries, one for each object of its parcel, in their order.
 #[derive(Drop)]
@@ -39,7 +33,7 @@ impl Iterator for CarriedObjects<'_> {
 
     fn next(&mut self) -> Option<Identity> {
         while let Some(v) = self.references.next() {
-            if is_carried_by(self.made, v.reference.holder) {
+            if matches!(v.reference.holder, Holder::Carried(b, _) if b == self.made) {
                 return Some(v.reference.object);
             }
         }

@@ -1,33 +1,13 @@
 //! Looking at objects.
 
-ghost use Rattle.std.specs.Prelude.{List, filter, find, map, option_map, ◌&&◌, ◌==◌, ◌≡◌};
+ghost use Rattle.std.specs.Prelude.{List, filter, find, map, ◌&&◌, ◌==◌, ◌≡◌};
 ghost use Rattle.bd_space.specs.{Words.{same}, declared.space.{Object.{Object}, Reference.{Reference}}};
 ghost use Rattle.bd_space.specs.References as refer;
-ghost use Rattle.bd_records.specs.ObjectKeys as keys;
 
 use crate::listing::OwnedObjects;
 use crate::records::Records;
-use crate::row::ObjectRow;
 use bd_space as space;
 use bd_space::Identity;
-
-// The object of this record, if the process owns it.
-#[inline(always)]
-fn own_of(row: Option<ObjectRow>, p: u64) -> Option<space::Object>
-    ensures { result ≡ keys.kept (λ x. x.owner == p) (option_map (λ w. w.object) row) }
-{
-    match row {
-        Some(w) if w.object.owner == p => Some(w.object),
-        _ => None,
-    }
-}
-
-// What was found, if it has this cookie.
-fn with_cookie(found: Option<space::Object>, cookie: u64) -> Option<space::Object>
-    ensures { result ≡ keys.kept (λ x. x.cookie == cookie) found }
-{
-    found.filter(|x| x.cookie == cookie)
-}
 
 impl Records {
     ghost use Rattle.bd_records.specs.Records.{RecordsAre};
@@ -49,7 +29,10 @@ impl Records {
         ensures { (objects : List Object) (l : List Reference) → RecordsAre self.now objects l
             → result ≡ find (λ x. same x.id o && (x.owner == p)) objects }
     {
-        own_of(self.objects.row_of(o), p)
+        match self.objects.row_of(o) {
+            Some(w) if w.object.owner == p => Some(w.object),
+            _ => None,
+        }
     }
 
     /// As `own_with_ptr`, where the object has this cookie, too.
@@ -57,7 +40,10 @@ impl Records {
         ensures { (objects : List Object) (l : List Reference) → RecordsAre self.now objects l
             → result ≡ find (λ x. (x.owner == p) && (x.ptr == ptr) && (x.cookie == cookie)) objects }
     {
-        with_cookie(self.own_with_ptr(p, ptr), cookie)
+        match self.own_with_ptr(p, ptr) {
+            Some(x) if x.cookie == cookie => Some(x),
+            _ => None,
+        }
     }
 
     /// The objects that the process owns, in the order in which they came.
