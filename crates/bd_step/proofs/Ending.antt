@@ -216,11 +216,3 @@ others_end_none s seat x no_command no_thread no_process = none_ended s (change 
     at step_of.ExitThread k l m = absurd (l refl)
     at step_of.ExitProcess k l m = absurd (m refl)
     at _ k l m = refl
-
-pub if_ok : {A E : Type 0} (r : Result A E) (P Q : Type 0) → (P → Q) → OnOk r P → OnOk r Q
-if_ok (Ok x) P Q f h = f h
-if_ok (Err e) P Q f h = tt
-
-pub if_err : {A E : Type 0} (r : Result A E) (P Q : Type 0) → (P → Q) → OnErr r P → OnErr r Q
-if_err (Ok x) P Q f h = tt
-if_err (Err e) P Q f h = f h

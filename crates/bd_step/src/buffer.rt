@@ -123,6 +123,7 @@ impl Tables {
     }
 
     // The buffer goes, with the references that it held and its turn.
+    #[tactic(auto, unfolding(bd_space::specs::Freeing::without_buffer))]
     fn remove_buffer(&mut self, made: u64)
         ensures stands { MakesWithin self.old self.new (λ s. freeing.without_buffer s made) }
         ensures uses { UsesNothing self.old self.new }

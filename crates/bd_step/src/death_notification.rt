@@ -32,6 +32,7 @@ fn is_out(phase: Phase) -> bool
 
 impl Tables {
     // A notification comes in, this far.
+    #[tactic(auto, unfolding(bd_space::specs::Deaths::with_death))]
     fn add_death(&mut self, p: u64, o: Identity, cookie: u64, phase: Phase)
         requires { 1 ≤ death_room self.old.objects }
         ensures stands { MakesWhere (Within self.old) (IsNewDeath self.old.steps p o) (Within self.new)

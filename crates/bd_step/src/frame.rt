@@ -14,6 +14,7 @@ use bd_space::{Actor, Frame, Server};
 
 impl Tables {
     /// A two-way call to the process makes a frame and is due at once.
+    #[tactic(auto, unfolding(bd_space::specs::Transactions::call_out, bd_space::specs::Todo::owe))]
     pub(crate) fn call_out(&mut self, seat: u32, process: u64)
         requires frames { 1 ≤ frame_room self.old.calls }
         requires works { 1 ≤ work_room self.old.calls }
@@ -25,6 +26,7 @@ impl Tables {
     }
 
     /// The frame closes.
+    #[tactic(auto, unfolding(bd_space::specs::Frames::closed))]
     pub(crate) fn close(&mut self, made: u64)
         ensures stands { Makes self.old self.new (λ s. frames.closed s made) }
         ensures spends { SpendsNothing self.old self.new }

@@ -82,6 +82,7 @@ impl Tables {
     }
 
     // A thread comes in, for a seat that has none.
+    #[tactic(auto, unfolding(bd_space::specs::Steps::with_thread))]
     pub(crate) fn add_thread(&mut self, seat: u32, process: u64)
         requires { 1 ≤ thread_room self.old.calls }
         ensures stands { (n : ℕ) → MakesWhere (StandsAt n self.old) (λ s. seats.thread_in s.threads seat ≡ None)

@@ -16,6 +16,7 @@ use bd_uapi::{Cause, Return};
 
 impl Tables {
     /// The thread of the seat has something to read.
+    #[tactic(auto, unfolding(bd_space::specs::Todo::owe))]
     pub(crate) fn owe(&mut self, seat: u32, kind: WorkKind)
         requires { 1 ≤ work_room self.old.calls }
         ensures stands { Makes self.old self.new (λ s. todo.owe s (OfThread seat) kind) }
@@ -50,6 +51,7 @@ impl Tables {
     }
 
     // A work item comes onto a list.
+    #[tactic(auto, unfolding(bd_space::specs::Todo::owe))]
     pub(crate) fn add_work(&mut self, list: TodoList, kind: WorkKind)
         requires { 1 ≤ work_room self.old.calls }
         ensures stands { MakesWithin self.old self.new (λ s. todo.owe s list kind) }

@@ -1,4 +1,4 @@
-use Rattle.bd_step.proofs.{Words.{Bool, Buffer, Err, HasEndings, List, Ok, OnErr, Result, Some, [], actor_acts, ap, at_pairs, buffer_at_pointer, change, find, space_after, stands_in, subst, sym, ℕ, ◌++◌, ◌∙◌, ◌∷◌, ◌≡◌}, Ending.{Earlier, nobody_frees, somebody_frees, free_ended, unfound_ended}}
+use Rattle.bd_step.proofs.{Words.{Bool, Buffer, HasEndings, List, Some, [], actor_acts, ap, at_pairs, buffer_at_pointer, change, find, space_after, stands_in, subst, sym, ℕ, ◌++◌, ◌∙◌, ◌∷◌, ◌≡◌}, Ending.{Earlier, nobody_frees, somebody_frees, free_ended, unfound_ended}, Gathered.{on_err}}
 use Rattle.bd_space.specs.declared.step.Step.TheVariants as step_of
 use Rattle.bd_uapi.specs.declared.command.Command.TheVariants as bc
 use Rattle.bd_step.proofs.tables.Tables.list_freed.Goals as goal
@@ -29,10 +29,6 @@ returns-in_ok-push-clause-listed c = λ h parcel before.
     subst (λ (ps : List ℕ). HasEndings ps s (change s c.args.seat (step_of.Command (bc.FreeBuffer c.args.pointer) parcel)).space) (sym is)
     (somebody_frees s c.args.seat c.args.pointer parcel a (b.made ∷ []) acts
     (free_ended s a.process.made c.args.pointer b (at_pairs Earlier s.buffers before.windows_stand.made.buffers_in_order) found))
-
-on_err : {T E P : Type 0} (r : Result T E) → P → OnErr r P
-on_err (Ok x) h = tt
-on_err (Err e) h = h
 
 none_there : (bs : List Buffer) (test : Buffer → Bool) (b : Buffer) → find test bs ≡ Some b → bs ≡ [] → ⊥
 none_there [] test b found none = absurd (cc)

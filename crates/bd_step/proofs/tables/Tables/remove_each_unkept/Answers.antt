@@ -1,4 +1,4 @@
-use Rattle.bd_step.proofs.{Words.{Bool, Identity, IsNobodyDue, List, None, Option, Some, Within, arith, false, is_among, is_some, objects_go_of, refl, rules, shed_of, subst, sym, take, take_all, true, ℕ, ◌||◌, ◌∙◌, ◌≡◌}, FollowingObjects.{nobody_next, shed_none, shed_next}}
+use Rattle.bd_step.proofs.{Words.{neither, Identity, IsNobodyDue, List, Within, arith, false, is_among, is_some, objects_go_of, rules, shed_of, subst, sym, take, take_all, true, ◌∙◌}, FollowingObjects.{nobody_next, shed_none, shed_next}, New.{is_none}}
 use Rattle.bd_step.proofs.tables.Tables.remove_each_unkept.Goals as goal
 
 pub loop-o-init : goal.loop-o-init
@@ -9,14 +9,6 @@ loop-o-init c = record {
   told = λ told k. k;
 }
 
-neither : (a b : Bool) → (a || b) ≡ false → (a ≡ false) × (b ≡ false)
-neither true b e = absurd (cc)
-neither false b e = (refl, e)
-
-none : (o : Option ℕ) → is_some o ≡ false → o ≡ None
-none None e = refl
-none (Some p) e = absurd (cc)
-
 pub loop-o-preserved : goal.loop-o-preserved
 unfolding shed_of objects_go_of
 loop-o-preserved c =
@@ -26,7 +18,7 @@ loop-o-preserved c =
       nobody = λ f s h.
           let parts = neither c.loop-o.due (is_some c.remove_unkept-owner.result) (sym c.is_due-due.ensures ∙ f) in
           nobody_next os k _ s c.loop-o-test.true (c.loop-o.invariant.nobody parts.0 s h)
-          (sym (c.remove_unkept-owner.ensures.owner (shed_of (is_among (take k os)) s) (c.loop-o.invariant.stands s h)) ∙ none _ parts.1);
+          (sym (c.remove_unkept-owner.ensures.owner (shed_of (is_among (take k os)) s) (c.loop-o.invariant.stands s h)) ∙ is_none _ parts.1);
       stands = λ s h. subst (Within _) (shed_next os k _ s c.loop-o-test.true)
           (c.remove_unkept-owner.ensures.stands (shed_of (is_among (take k os)) s) (c.loop-o.invariant.stands s h));
       uses = search rules;
