@@ -1,6 +1,4 @@
-use Rattle.std.proofs.Common.{◌≡◌}
-use Rattle.std.proofs.lemmas.List.Elements.{All-push, All-same}
-use Rattle.bd_driver.proofs.Seats.{own}
+use Rattle.bd_driver.proofs.{Seats.{own}, Words.{All-push, All-same, ◌≡◌}}
 use Rattle.bd_driver.proofs.tests.back.Goals as goal
 
 pub returns : goal.returns

@@ -1,6 +1,4 @@
-use Rattle.std.proofs.Common.{◌≡◌, Some}
-use Rattle.std.proofs.lemmas.List.Elements.{All-pop}
-use Rattle.bd_driver.proofs.Seats.{own}
+use Rattle.bd_driver.proofs.{Seats.{own}, Words.{All-pop, Some, ◌≡◌}}
 use Rattle.bd_driver.proofs.tests.next.Goals as goal
 
 pub returns-in-Some-clause-seat : goal.returns-in-Some-clause-seat
