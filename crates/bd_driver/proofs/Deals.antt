@@ -1,23 +1,5 @@
 -- The opening, and the dealing of seats.
-use Rattle.std.specs.Prelude.{replicate}
-use Rattle.std.proofs.Common.{map, ◌≡◌, ◌≢◌, ◌⊎◌, ℕ, zero, suc, ◌+◌, ◌<◌, ◌≤◌, true, cond, eqb, List, [], ◌∷◌, ◌++◌, length, set, true≢false, refl, sym, ap, ◌∙◌, subst, inl, inr, ⊎_elim, arith, length-set, eq-eqb, ne_eqb}
-use mathlib.Core.Option.{Option, none, some, some-injective, some-ne-none}
-use lib.ListN.{get_elem?}
-use Rattle.atomic_table.specs.Seated.{TableId}
-use Rattle.atomic_table.specs.Table.{Splits, Enters, step, opening}
-use Rattle.atomic_table.proofs.Lists.{at_set, at_longer, set_else}
-use Rattle.bd_space.specs.Histories.{History, history_of}
-use Rattle.bd_driver.specs.Views.{ready_of, fresh, seated, newcomers, view_of, others_of, Each, Idle}
-use Rattle.bd_driver.specs.Words.{page_word}
-use Rattle.bd_driver.specs.Rule.{HasTaker, Fits, Kept}
-use Rattle.bd_driver.specs.declared.view.View.{View}
-use Rattle.bd_driver.specs.declared.slot.Slot.TheVariants.{Home, Empty}
-use Rattle.bd_driver.specs.Steps.{entered}
-use Rattle.bd_driver.specs.Together.{new_seats}
-use Rattle.bd_driver.specs.Mailboxes.{Mailbox, shut, picked, mark, inside_of, since_of}
-use Rattle.bd_driver.proofs.Picked.{is_picked}
-use Rattle.bd_driver.proofs.Views.{each_map, each_both}
-use Rattle.bd_driver.proofs.Keeping.{reseat, recarry}
+use Rattle.bd_driver.proofs.{Keeping.{recarry, reseat}, Picked.{is_picked}, Views.{each_both, each_map}, Words.{Each, Empty, Enters, Fits, HasTaker, History, Home, Idle, Kept, List, Mailbox, Option, Splits, TableId, View, [], ap, arith, at_longer, at_set, cond, entered, eq-eqb, eqb, fresh, get_elem?, history_of, inl, inr, inside_of, length, length-set, map, mark, ne_eqb, new_seats, newcomers, none, opening, others_of, page_word, picked, ready_of, refl, replicate, seated, set, set_else, shut, since_of, some, some-injective, some-ne-none, step, subst, suc, sym, true, true≢false, view_of, zero, ℕ, ⊎_elim, ◌++◌, ◌+◌, ◌<◌, ◌∙◌, ◌∷◌, ◌≡◌, ◌≢◌, ◌≤◌, ◌⊎◌}}
 
 pub new_idle : (seats who k : ℕ) → Each Idle (newcomers seats who k)
 new_idle seats who zero = tt

@@ -1,6 +1,5 @@
 -- Slots that are emptied one after the other, each said to be filled or not.
-use Rattle.std.proofs.Common.{arith, ◌+◌, ◌<◌, ◌≤◌, ◌≡◌, ℕ, zero, suc, Bool, false, List, [], ◌∷◌, refl}
-use Rattle.std.specs.Prelude.{IsTrue, slice_index_or, slice_set}
+use Rattle.bd_driver.proofs.Words.{Bool, IsTrue, List, [], arith, false, refl, slice_index_or, slice_set, suc, zero, ℕ, ◌+◌, ◌<◌, ◌∷◌, ◌≡◌, ◌≤◌}
 
 -- once the next one is emptied, those before it and it are empty
 pub emptied : (l : List Bool) (at k : ℕ) → k < at + 1 → ((j : ℕ) → j < at → slice_index_or l j false ≡ false) → slice_index_or (slice_set l at false) k false ≡ false

@@ -1,27 +1,5 @@
 -- The gathering of all seats, and what the last state says.
-use Rattle.std.proofs.Common.{arith, ◌+◌, inl, inr, map, ◌-◌, ◌≡◌, ◌≢◌, ℕ, zero, suc, cond, eqb, List, [], ◌∷◌, ◌++◌, set, true≢false, refl, sym, ap, ◌∙◌, subst, ⊎_elim, append-nil, eq-eqb, ne_eqb}
-use mathlib.Core.Option.{Option, none, some, some-injective, some-ne-none}
-use lib.ListN.{get_elem?}
-use Rattle.atomic_table.specs.Table.{State, Joins, Final, Seen}
-use Rattle.atomic_table.proofs.Lists.{at_set, set_else}
-use Rattle.bd_space.specs.declared.step.Entry.{Entry}
-use Rattle.bd_space.specs.Histories.{History, IsHistory, history_of}
-use Rattle.bd_driver.specs.Views.{places_of, places, Each, Idle}
-use Rattle.bd_driver.specs.Rule.{home_of, HasTaker, Fits, Kept}
-use Rattle.bd_driver.specs.declared.view.View.{View}
-use Rattle.bd_space.specs.declared.step.Request.{Request}
-use Rattle.bd_space.specs.declared.step.Answer.{Answer}
-use Rattle.bd_driver.specs.declared.view.Handover.{Handover}
-use Rattle.bd_driver.specs.declared.view.Handover.TheVariants.{Shut, Open, Waiting}
-use Rattle.bd_driver.specs.declared.slot.Slot.{Slot}
-use Rattle.bd_driver.specs.declared.slot.Slot.TheVariants.{Home, Posted, Answered, Empty}
-use Rattle.bd_driver.specs.States.{SeatState}
-use Rattle.bd_driver.specs.Together.{closed_hand, closed_view, views_of, AllSeats, OwnEntries, IsFinal}
-use Rattle.bd_driver.specs.declared.outcome.Outcome.TheVariants.{Done, Back, Handed}
-use Rattle.bd_driver.specs.Mailboxes.{Mailbox, shut, empty, posted, picked, answered, inside_of, pending, MailboxFits, RunAt}
-use Rattle.bd_driver.proofs.Views.{each_map, each_both, each_append}
-use Rattle.bd_driver.proofs.Keeping.{reseat, recarry}
-use Rattle.bd_driver.proofs.Deals.{not_taker}
+use Rattle.bd_driver.proofs.{Deals.{not_taker}, Keeping.{recarry, reseat}, Views.{each_append, each_both, each_map}, Words.{AllSeats, Answer, Answered, Back, Done, Each, Empty, Entry, Final, Fits, Handed, Handover, HasTaker, History, Home, Idle, IsFinal, IsHistory, Joins, Kept, List, Mailbox, MailboxFits, Open, Option, OwnEntries, Posted, Request, RunAt, SeatState, Seen, Shut, Slot, State, View, Waiting, [], answered, ap, append-nil, arith, at_set, closed_hand, closed_view, cond, empty, eq-eqb, eqb, get_elem?, history_of, home_of, inl, inr, inside_of, map, ne_eqb, none, pending, picked, places, places_of, posted, refl, set, set_else, shut, some, some-injective, some-ne-none, subst, suc, sym, true≢false, views_of, zero, ℕ, ⊎_elim, ◌++◌, ◌+◌, ◌-◌, ◌∙◌, ◌∷◌, ◌≡◌, ◌≢◌}}
 
 pub gathers : (seats id other : ℕ) (vs ws : List View) → Each Idle vs → Each Idle ws → Joins (Kept seats) id vs other ws (ws ++ vs) []
 gathers seats id other vs ws idle idle' s h at apart at' =

@@ -1,21 +1,5 @@
 -- What a change of one view, or of who carries the views, leaves of the rule.
-use Rattle.std.proofs.Common.{◌≡◌, ◌≢◌, ℕ, ◌<◌, ◌≤◌, true, false, List, [], ◌∷◌, ◌++◌, map, length, set, refl, sym, ap, ◌∙◌, subst}
-use mathlib.Core.Option.{Option, some}
-use lib.ListN.{get_elem?}
-use Rattle.std.specs.Prelude.{slice_index}
-use Rattle.atomic_table.specs.Table.{State, Act, Valid, homes_after, carried_after, stepped}
-use Rattle.bd_space.specs.declared.step.Entry.{Entry}
-use Rattle.bd_driver.specs.Views.{ready_of, places_of, Each}
-use Rattle.bd_space.specs.Histories.{BeginsWith}
-use Rattle.bd_driver.specs.Words.{page_word}
-use Rattle.bd_driver.specs.Rule.{bit_of, home_of, HasTaker, Fits, Kept}
-use Rattle.bd_driver.specs.Steps.{Hands}
-use Rattle.bd_driver.specs.declared.view.View.{View}
-use Rattle.bd_driver.specs.declared.view.Handover.{Handover}
-use Rattle.bd_driver.specs.declared.view.Picking.TheVariants.{Nothing}
-use Rattle.bd_driver.specs.declared.slot.Slot.{Slot}
-use Rattle.bd_driver.specs.Mailboxes.{Mailbox, mark, inside_of, pending, since_of, MailboxFits, PickFits}
-use Rattle.bd_driver.proofs.Views.{each_map, each_set}
+use Rattle.bd_driver.proofs.{Views.{each_map, each_set}, Words.{Act, BeginsWith, Each, Entry, Fits, Handover, Hands, HasTaker, Kept, List, Mailbox, MailboxFits, Nothing, Option, PickFits, Slot, State, Valid, View, [], ap, bit_of, carried_after, false, get_elem?, home_of, homes_after, inside_of, length, map, mark, page_word, pending, places_of, ready_of, refl, set, since_of, slice_index, some, stepped, subst, sym, true, ℕ, ◌++◌, ◌<◌, ◌∙◌, ◌∷◌, ◌≡◌, ◌≢◌, ◌≤◌}}
 
 -- what `Allows` asks of a step in one state: a next view and an act that keep the rule
 abbrev pub Granted : ℕ → ℕ → Hands → State Slot (List View) → ℕ → (ℕ → ℕ) → (ℕ → Hands → Type 0) → Type 0

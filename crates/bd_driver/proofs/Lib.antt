@@ -1,4 +1,5 @@
-pub mod Words
+mod Words
+pub mod PageWord
 pub mod Places
 pub mod Views
 pub mod Picked

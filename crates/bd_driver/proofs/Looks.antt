@@ -1,17 +1,5 @@
 -- A look keeps the rule.
-use Rattle.std.proofs.Common.{◌≡◌, ℕ, ◌/◌, ◌%◌, ◌<◌, List, [], ◌∷◌, length, get_or, refl, ap, sym, ◌∙◌, subst, arith}
-use mathlib.Core.Option.{Option, none, some}
-use lib.ListN.{get_elem?}
-use Rattle.atomic_table.specs.Table.{State, step, keeps, Allows}
-use Rattle.bd_driver.specs.Views.{ready_of, IsPage, view_of, Each}
-use Rattle.bd_driver.specs.Words.{page_word}
-use Rattle.bd_driver.specs.Rule.{bit_of, Fits, Kept}
-use Rattle.bd_driver.specs.declared.view.View.{View}
-use Rattle.bd_driver.specs.declared.slot.Slot.{Slot}
-use Rattle.bd_driver.specs.Steps.{Hands, looked, looked_at}
-use Rattle.bd_driver.proofs.Words.{page_parts}
-use Rattle.bd_driver.proofs.Keeping.{review, repage}
-use Rattle.bd_driver.proofs.Views.{keeps_taker, starts_all}
+use Rattle.bd_driver.proofs.{Keeping.{repage, review}, PageWord.{page_parts}, Views.{keeps_taker, starts_all}, Words.{Allows, Each, Fits, Hands, IsPage, Kept, List, Option, Slot, State, View, [], ap, arith, bit_of, get_elem?, get_or, keeps, length, looked, looked_at, none, page_word, ready_of, refl, some, step, subst, sym, view_of, ℕ, ◌%◌, ◌/◌, ◌<◌, ◌∙◌, ◌∷◌, ◌≡◌}}
 
 pub bit_small : (taken_by : Option ℕ) → bit_of taken_by < 2
 bit_small none = omega arith

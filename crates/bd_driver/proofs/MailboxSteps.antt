@@ -1,37 +1,5 @@
 -- The steps on mailboxes keep the rule.
-use Rattle.std.proofs.Common.{◌≡◌, ◌≢◌, ◌⊎◌, ℕ, zero, suc, ◌+◌, ◌-◌, ◌<◌, ◌≤◌, Bool, true, false, eqb, List, [], ◌∷◌, ◌++◌, map, length, set, get_or, true≢false, refl, sym, ap, ◌∙◌, subst, inl, inr, ⊎_elim, arith, length-append, length-set, append-nil, ne_eqb}
-use Rattle.std.proofs.lemmas.List.{map-set, set-get_or}
-use mathlib.Core.Option.{none, some, some-injective, some-ne-none}
-use mathlib.Core.Logic.{dite}
-use native.Mathlib.Decide.{ℕ_discrete}
-use prog.Atomic.{either}
-use lib.ListN.{get_elem?}
-use Rattle.atomic_table.specs.Table.{State, Act, step, keeps, takes, gives, rest, put_back, homes_after, stepped, Allows}
-use Rattle.atomic_table.proofs.Lists.{at_set, at_map, set_here, set_else, set_again}
-use Rattle.bd_space.specs.declared.step.Entry.{Entry}
-use Rattle.bd_space.specs.declared.step.Request.{Request}
-use Rattle.bd_space.specs.declared.step.Answer.{Answer}
-use Rattle.bd_space.specs.Runs.{AllBy}
-use Rattle.bd_driver.specs.Views.{ready_of, places_of, places, view_of}
-use Rattle.bd_space.specs.Histories.{BeginsWith}
-use Rattle.bd_driver.specs.Words.{page_word}
-use Rattle.bd_driver.specs.Rule.{bit_of, home_of, HasTaker, Fits, Kept}
-use Rattle.bd_driver.specs.declared.view.View.{View}
-use Rattle.bd_driver.specs.declared.view.Handover.{Handover}
-use Rattle.bd_driver.specs.declared.view.Handover.TheVariants.{Shut, Open, Waiting}
-use Rattle.bd_driver.specs.declared.view.Picking.{Picking}
-use Rattle.bd_driver.specs.declared.view.Picking.TheVariants.{Nothing, Picked}
-use Rattle.bd_driver.specs.declared.outcome.Outcome.{Outcome}
-use Rattle.bd_driver.specs.declared.slot.Slot.{Slot}
-use Rattle.bd_driver.specs.declared.slot.Slot.TheVariants.{Posted, Answered, Empty}
-use Rattle.bd_driver.specs.Mailboxes.{Mailbox, shut, empty, posted, picked, answered, mark, inside_of, answer_places, pending, since_of, RunAt, IsTold, MailboxFits, PickFits, PickedAs}
-use Rattle.bd_driver.specs.Steps.{Hands, entries_in, posted_at, posted_as, withdrawn_at, kept_at, withdrew, picked_at, tried_at, picked_as, with_places, served_at, served, outcome_in, picked_word, answered_at, answered_as, collected_at, missed_at, collected_as, opened_at, opened, closed_at, closed}
-use Rattle.bd_driver.proofs.Places.{own_grow, others_stay}
-use Rattle.bd_driver.proofs.Views.{inside, keeps_taker, taker_has, starts_all, starts_longer}
-use Rattle.bd_driver.proofs.Picked.{is_picked, none_else, one_else, picked_else, picked_gone, picked_set}
-use Rattle.bd_driver.proofs.Mailboxes.{longer, fits_longer, open_mailbox}
-use Rattle.bd_driver.proofs.Looks.{of_one}
-use Rattle.bd_driver.proofs.Keeping.{Granted, review, restate}
+use Rattle.bd_driver.proofs.{Keeping.{Granted, restate, review}, Looks.{of_one}, Mailboxes.{fits_longer, longer, open_mailbox}, Picked.{is_picked, none_else, one_else, picked_else, picked_gone, picked_set}, Places.{others_stay, own_grow}, Views.{inside, keeps_taker, starts_all, starts_longer, taker_has}, Words.{Act, AllBy, Allows, Answer, Answered, BeginsWith, Bool, Empty, Entry, Fits, Handover, Hands, HasTaker, IsTold, Kept, List, Mailbox, MailboxFits, Nothing, Open, Outcome, PickFits, Picked, PickedAs, Picking, Posted, Request, RunAt, Shut, Slot, State, View, Waiting, [], answer_places, answered, answered_as, answered_at, ap, append-nil, arith, at_map, at_set, bit_of, closed, closed_at, collected_as, collected_at, dite, either, empty, entries_in, eqb, false, get_elem?, get_or, gives, home_of, homes_after, inl, inr, inside_of, keeps, kept_at, length, length-append, length-set, map, map-set, mark, missed_at, ne_eqb, none, opened, opened_at, outcome_in, page_word, pending, picked, picked_as, picked_at, picked_word, places, places_of, posted, posted_as, posted_at, put_back, ready_of, refl, rest, served, served_at, set, set-get_or, set_again, set_else, set_here, shut, since_of, some, some-injective, some-ne-none, step, stepped, subst, suc, sym, takes, tried_at, true, true≢false, view_of, with_places, withdrawn_at, withdrew, zero, ℕ, ℕ_discrete, ⊎_elim, ◌++◌, ◌+◌, ◌-◌, ◌<◌, ◌∙◌, ◌∷◌, ◌≡◌, ◌≢◌, ◌≤◌, ◌⊎◌}}
 
 -- what is picked stays so where another mailbox changes
 pick_else : (mailboxes : List Mailbox) (i : ℕ) (b new : Mailbox) (p : Picking) → get_elem? mailboxes i ≡ some b → is_picked b ≡ false → PickFits mailboxes p → PickFits (set mailboxes i new) p

@@ -1,22 +1,5 @@
 -- Mailboxes while the history grows.
-use Rattle.std.proofs.Common.{◌≡◌, ◌≢◌, ℕ, ◌+◌, ◌≤◌, true, List, ◌++◌, length, refl, sym, ap, ◌∙◌, subst, inl, inr, ⊎_elim, arith, length-append, append_assoc}
-use mathlib.Core.Option.{Option, some}
-use Rattle.bd_space.specs.declared.step.Entry.{Entry}
-use Rattle.bd_space.specs.declared.step.Request.{Request}
-use Rattle.bd_space.specs.declared.step.Answer.{Answer}
-use Rattle.bd_space.specs.Runs.{AllBy}
-use Rattle.bd_space.specs.Histories.{BeginsWith}
-use Rattle.bd_driver.specs.Views.{places_of}
-use Rattle.bd_driver.specs.Rule.{Fits}
-use Rattle.bd_driver.specs.declared.view.View.{View}
-use Rattle.bd_driver.specs.declared.view.Handover.{Handover}
-use Rattle.bd_driver.specs.declared.view.Handover.TheVariants.{Open}
-use Rattle.bd_driver.specs.declared.outcome.Why.{Why}
-use Rattle.bd_driver.specs.declared.outcome.Outcome.{Outcome}
-use Rattle.bd_driver.specs.declared.outcome.Outcome.TheVariants.{Done, Back, Handed}
-use Rattle.bd_driver.specs.Mailboxes.{Mailbox, shut, empty, posted, picked, answered, RunAt, HadReason, IsTold, MailboxFits}
-use Rattle.bd_driver.proofs.Places.{others_stay}
-use Rattle.bd_driver.proofs.Views.{starts_longer}
+use Rattle.bd_driver.proofs.{Places.{others_stay}, Views.{starts_longer}, Words.{AllBy, Answer, Back, BeginsWith, Done, Entry, Fits, HadReason, Handed, Handover, IsTold, List, Mailbox, MailboxFits, Open, Option, Outcome, Request, RunAt, View, Why, answered, ap, append_assoc, arith, empty, inl, inr, length, length-append, picked, places_of, posted, refl, shut, some, subst, sym, true, ℕ, ⊎_elim, ◌++◌, ◌+◌, ◌∙◌, ◌≡◌, ◌≢◌, ◌≤◌}}
 
 pub run_longer : (seats : ℕ) (entries run : List Entry) (who : ℕ) (r : Request) (n : ℕ) (answer : Answer) (start end : ℕ) → RunAt seats entries who r n answer start end → RunAt seats (entries ++ run) who r n answer start end
 run_longer seats entries run who r n answer start end h = record {

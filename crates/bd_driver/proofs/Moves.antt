@@ -1,20 +1,5 @@
 -- Publish and put at given hands: that they are allowed, and the hands after.
-use Rattle.std.proofs.Common.{◌≡◌, ℕ, ◌<◌, true, List, [], ◌∷◌, ◌++◌, length, bit_and, refl, sym, ap, ◌∙◌, subst}
-use mathlib.Core.Option.{none}
-use Rattle.atomic_table.specs.Table.{step, rest, Allows}
-use Rattle.bd_space.specs.declared.step.Entry.{Entry}
-use Rattle.bd_space.specs.Histories.{History, history_of}
-use Rattle.bd_driver.specs.Views.{ready_of, view_of}
-use Rattle.bd_space.specs.Runs.{AllBy}
-use Rattle.bd_driver.specs.Words.{page_word}
-use Rattle.bd_driver.specs.Rule.{Kept}
-use Rattle.bd_driver.specs.declared.view.View.{View}
-use Rattle.bd_driver.specs.declared.view.Handover.TheVariants.{Open}
-use Rattle.bd_driver.specs.declared.view.Picking.TheVariants.{Nothing}
-use Rattle.bd_driver.specs.declared.slot.Slot.{Slot}
-use Rattle.bd_driver.specs.declared.slot.Slot.TheVariants.{Home}
-use Rattle.bd_driver.specs.Steps.{Hands, entries_in, published_at, published, put_at, put}
-use Rattle.bd_driver.proofs.Takes.{publishes, puts}
+use Rattle.bd_driver.proofs.{Takes.{publishes, puts}, Words.{AllBy, Allows, Entry, Hands, History, Home, Kept, List, Nothing, Open, Slot, View, [], ap, bit_and, entries_in, history_of, length, none, page_word, published, published_at, put, put_at, ready_of, refl, rest, step, subst, sym, true, view_of, ℕ, ◌++◌, ◌<◌, ◌∙◌, ◌∷◌, ◌≡◌}}
 
 -- what an exchange leaves in the slot held first
 pub placed : (me m : Hands) (v : View) (slot : ℕ) (x y : Slot) (xs : List (ℕ × Slot)) → me.0 ≡ v ∷ [] → me.1 ≡ (slot, x) ∷ xs → m ≡ (me.0, (slot, y) ∷ rest me.1) → m ≡ (v ∷ [], (slot, y) ∷ xs)

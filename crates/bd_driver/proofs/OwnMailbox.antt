@@ -1,25 +1,5 @@
 -- Steps on the own mailbox, from what a seat at rest knows.
-use Rattle.std.proofs.Common.{◌≡◌, ℕ, suc, ◌+◌, Bool, true, false, eqb, List, [], ◌∷◌, true≢false, refl, sym, ap, ◌∙◌, subst, arith}
-use mathlib.Core.Option.{none}
-use prog.Atomic.{either}
-use Rattle.atomic_table.specs.Table.{step, rest, Allows}
-use Rattle.bd_space.specs.declared.step.Entry.{Entry}
-use Rattle.bd_space.specs.declared.step.Request.{Request}
-use Rattle.bd_driver.specs.declared.view.View.{View}
-use Rattle.bd_driver.specs.declared.view.Handover.{Handover}
-use Rattle.bd_driver.specs.declared.view.Handover.TheVariants.{Shut, Open, Waiting}
-use Rattle.bd_driver.specs.declared.slot.Slot.{Slot}
-use Rattle.bd_driver.specs.declared.slot.Slot.TheVariants.{Home, Posted, Answered, Empty}
-use Rattle.bd_driver.specs.declared.outcome.Outcome.{Outcome}
-use Rattle.bd_driver.specs.declared.outcome.Outcome.TheVariants.{Done, Back, Handed}
-use Rattle.bd_space.specs.Histories.{BeginsWith}
-use Rattle.bd_driver.specs.Views.{view_of}
-use Rattle.bd_driver.specs.Rule.{Kept}
-use Rattle.bd_driver.specs.Mailboxes.{IsTold}
-use Rattle.bd_driver.specs.Steps.{Hands, opened, closed, posted_at, posted_as, withdrew, collected_at, collected_as}
-use Rattle.bd_driver.specs.Rest.{is_waiting, held_of, IsReady, IsAtRest}
-use Rattle.bd_driver.specs.Handing.{IsCollected, Collects}
-use Rattle.bd_driver.proofs.MailboxSteps.{posts, withdraws, collects, opens_mailbox, closes_mailbox}
+use Rattle.bd_driver.proofs.{MailboxSteps.{closes_mailbox, collects, opens_mailbox, posts, withdraws}, Words.{Allows, Answered, Back, BeginsWith, Bool, Collects, Done, Empty, Entry, Handed, Handover, Hands, Home, IsAtRest, IsCollected, IsReady, IsTold, Kept, List, Open, Outcome, Posted, Request, Shut, Slot, View, Waiting, [], ap, arith, closed, collected_as, collected_at, either, eqb, false, held_of, is_waiting, none, opened, posted_as, posted_at, refl, rest, step, subst, suc, sym, true, true≢false, view_of, withdrew, ℕ, ◌+◌, ◌∙◌, ◌∷◌, ◌≡◌}}
 
 pub open_hand : (h : Handover) → IsReady h → is_waiting h ≡ false → h ≡ Open
 open_hand Shut r e = absurd r

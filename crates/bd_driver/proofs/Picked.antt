@@ -1,12 +1,5 @@
 -- What is picked, while mailboxes change.
-use Rattle.std.proofs.Common.{◌≡◌, ◌≢◌, ℕ, Bool, true, false, List, set, true≢false, sym, ap, ◌∙◌, ⊎_elim}
-use mathlib.Core.Option.{some}
-use lib.ListN.{get_elem?}
-use Rattle.atomic_table.proofs.Lists.{at_set}
-use Rattle.bd_space.specs.declared.step.Request.{Request}
-use Rattle.bd_driver.specs.declared.view.Picking.{Picking}
-use Rattle.bd_driver.specs.declared.view.Picking.TheVariants.{Nothing, Picked}
-use Rattle.bd_driver.specs.Mailboxes.{Mailbox, shut, empty, posted, picked, answered, PickedAs}
+use Rattle.bd_driver.proofs.Words.{Bool, List, Mailbox, Nothing, Picked, PickedAs, Picking, Request, answered, ap, at_set, empty, false, get_elem?, picked, posted, set, shut, some, sym, true, true≢false, ℕ, ⊎_elim, ◌∙◌, ◌≡◌, ◌≢◌}
 
 abbrev pub is_picked : Mailbox → Bool
 is_picked shut = false

@@ -1,8 +1,5 @@
 -- The places of a seat's entries after a run.
-use Rattle.std.proofs.Common.{◌≡◌, ◌≢◌, ℕ, ◌+◌, Bool, true, false, cond, eqb, List, [], ◌∷◌, ◌++◌, length, refl, sym, ap, ◌∙◌, arith, eq-eqb, ne_eqb, append-nil}
-use Rattle.bd_space.specs.declared.step.Entry.{Entry}
-use Rattle.bd_space.specs.Runs.{AllBy}
-use Rattle.bd_driver.specs.Views.{places_from, places_of, places}
+use Rattle.bd_driver.proofs.Words.{AllBy, Bool, Entry, List, [], ap, append-nil, arith, cond, eq-eqb, eqb, false, length, ne_eqb, places, places_from, places_of, refl, sym, true, ℕ, ◌++◌, ◌+◌, ◌∙◌, ◌∷◌, ◌≡◌, ◌≢◌}
 
 cond_append : (b : Bool) (n : ℕ) (xs ys : List ℕ) → cond b (n ∷ (xs ++ ys)) (xs ++ ys) ≡ cond b (n ∷ xs) xs ++ ys
 cond_append true n xs ys = refl

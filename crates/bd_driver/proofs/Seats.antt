@@ -1,10 +1,5 @@
 -- Seats of one table, in lists.
-use Rattle.std.proofs.Common.{◌≡◌, ℕ, zero, suc, ◌+◌, List, ◌++◌, length, take, drop, refl, All}
-use Rattle.std.specs.List.{AllByRecursion}
-use Rattle.std.proofs.lemmas.List.Elements.{All-from_recursion, All-same, All-append, All-take, All-drop}
-use Rattle.atomic_table.specs.Seated.{TableId}
-use Rattle.bd_driver.specs.States.{SeatState}
-use Rattle.bd_driver.specs.Together.{new_seats}
+use Rattle.bd_driver.proofs.Words.{All, All-append, All-drop, All-from_recursion, All-same, All-take, AllByRecursion, List, SeatState, TableId, drop, length, new_seats, refl, suc, take, zero, ℕ, ◌++◌, ◌+◌, ◌≡◌}
 
 abbrev pub own : TableId → SeatState → Type 0
 own table s = s.table ≡ table

@@ -1,41 +1,7 @@
 -- The parts of `serve`: their steps at given hands, and what they come to.
-use Rattle.std.proofs.Common.{◌≡◌, ◌≢◌, ℕ, suc, ◌+◌, ◌-◌, ◌<◌, Bool, true, false, eqb, List, [], ◌∷◌, ◌++◌, length, refl, sym, ap, ◌∙◌, subst, inl, inr, arith, length-append, append_assoc, cond, eq-eqb, ne_eqb, ◌==◌, ◌%◌, Some, None, append-nil}
-use mathlib.Core.Option.{none}
-use prog.Atomic.{either}
-use Rattle.atomic_table.specs.Table.{step, rest, Allows}
-use Rattle.bd_space.specs.declared.step.Entry.{Entry}
-use Rattle.bd_space.specs.declared.step.Request.{Request}
-use Rattle.bd_space.specs.declared.step.Answer.{Answer}
-use Rattle.bd_space.specs.Histories.{History, HasPlace, BeginsWith, history_of}
-use Rattle.bd_space.specs.Runs.{IsAtLimit, HasEntry, HasRun, IsRun}
-use Rattle.bd_driver.specs.Views.{ready_of, places, tick, view_of}
-use Rattle.bd_driver.specs.Words.{page_word}
-use Rattle.bd_driver.specs.Rule.{Kept}
-use Rattle.bd_engine.specs.StepError.{StepError}
+use Rattle.bd_driver.proofs.{MailboxSteps.{answers, picks, serves}, Views.{starts_all}, Words.{Allows, Answer, Answered, AnswersAll, AnswersOne, AnswersPick, Back, BeginsWith, Bool, Done, Empty, Entry, Err, FollowsFor, FullOnly, HadReason, Handed, Hands, HasEntry, HasPlace, HasRun, History, Home, IfErr, IfOk, IsAtLimit, IsPicked, IsReason, IsRun, IsTold, Kept, Letter, List, MatchBool, MatchResult, MemoryOnly, None, Nothing, Ok, OnErr, OnlyServes, Outcome, Picked, Picking, PicksOne, Ran, RanPicked, Request, Result, RunAt, RunsAs, ServedAll, ServedOne, Serves, Serving, Slot, Some, StepError, Takes, Tally, View, [], answer_places, answered_as, answered_at, ap, append-nil, append_assoc, arith, cond, either, entries_in, eq-eqb, eqb, false, history_of, if◌then◌else◌, inl, inr, length, length-append, letter_ticks, letter_to, ne_eqb, none, ones, page_word, picked_as, picked_at, places, put_at, ready_of, reason_of, refl, rest, served, served_as, served_at, slice_set, step, subst, suc, sym, tally_at, tick, ticks, took_at, true, view_of, with_places, ℕ, ◌%◌, ◌++◌, ◌+◌, ◌-◌, ◌<◌, ◌==◌, ◌∙◌, ◌∷◌, ◌≡◌, ◌≢◌}}
 use Rattle.bd_engine.specs.StepError.TheVariants.{NoMemory as Memory, HistoryFull as Full}
-use Rattle.bd_engine.specs.Refusals.{FullOnly, MemoryOnly}
 use Rattle.bd_engine.specs.declared.run.Ran.{Ran as HasRan}
-use Rattle.bd_driver.specs.declared.outcome.Outcome.TheVariants.{Done, Back, Handed}
-use Rattle.bd_driver.specs.Reasons.{reason_of}
-use Rattle.bd_driver.specs.declared.view.View.{View}
-use Rattle.bd_driver.specs.declared.view.Picking.{Picking}
-use Rattle.bd_driver.specs.declared.view.Picking.TheVariants.{Nothing, Picked}
-use Rattle.bd_driver.specs.declared.slot.Slot.{Slot}
-use Rattle.bd_driver.specs.declared.slot.Slot.TheVariants.{Home, Answered, Empty}
-use Rattle.bd_driver.specs.declared.outcome.Outcome.{Outcome}
-use Rattle.bd_driver.specs.Mailboxes.{RunAt, HadReason, IsReason, IsTold, answer_places}
-use Rattle.bd_driver.specs.Steps.{Hands, entries_in, picked_as, with_places, served_at, served, letter_to, answered_at, answered_as}
-use Rattle.std.specs.Prelude.{slice_set, MatchBool, if◌then◌else◌, Result, Ok, Err, MatchResult, IfOk, IfErr, OnErr}
-use Rattle.bd_driver.specs.declared.view.Tally.{Tally}
-use Rattle.bd_driver.specs.declared.view.Letter.{Letter}
-use Rattle.bd_driver.specs.Steps.{tally_at, picked_at}
-use Rattle.bd_driver.specs.Steps.{took_at, put_at}
-use Rattle.bd_driver.specs.Driver.{Takes}
-use Rattle.bd_driver.specs.Served.{Serves}
-use Rattle.bd_driver.specs.declared.outcome.Served.TheVariants.{Ran}
-use Rattle.bd_driver.specs.Serve.{Serving, IsPicked, PicksOne, FollowsFor, AnswersPick, RunsAs, AnswersOne, letter_ticks, served_as, OnlyServes, RanPicked, ServedOne, AnswersAll, ServedAll, ticks, ones}
-use Rattle.bd_driver.proofs.Views.{starts_all}
-use Rattle.bd_driver.proofs.MailboxSteps.{picks, serves, answers}
 
 pub picks_at : (seats slots id : ℕ) (me : Hands) (i word : ℕ) → word ≡ suc i → me.0 ≡ view_of me.0 ∷ [] → (view_of me.0).taker ≡ true → (view_of me.0).pick ≡ Nothing → i < seats
     → Allows (Kept seats) slots id me word (λ n. either (eqb n 1) 2 n) (picked_as (step slots word 1 2 none) me)

@@ -1,28 +1,5 @@
 -- A take, a publish and a put keep the rule.
-use Rattle.std.proofs.Common.{◌≡◌, ◌⊎◌, ℕ, ◌+◌, ◌-◌, ◌%◌, ◌<◌, ◌≤◌, Bool, true, false, List, [], ◌∷◌, ◌++◌, map, length, set, get_or, bit_and, bit_or, true≢false, refl, sym, ap, ◌∙◌, subst, inl, inr, ⊎_elim, arith, length-append, append-nil, eq-eqb, ne_eqb}
-use mathlib.Core.Option.{Option, none, some, some-injective, some-ne-none}
-use lib.ListN.{get_elem?}
-use Rattle.atomic_table.proofs.Lists.{set_here}
-use Rattle.atomic_table.specs.Table.{State, step, keeps, takes, gives, rest, put_back, Allows}
-use Rattle.bd_space.specs.declared.step.Entry.{Entry}
-use Rattle.bd_driver.specs.Views.{IsPage, ready_of, places_of, places, view_of}
-use Rattle.bd_space.specs.Histories.{history_of}
-use Rattle.bd_space.specs.Runs.{AllBy}
-use Rattle.bd_driver.specs.Words.{page_word}
-use Rattle.bd_driver.specs.Rule.{bit_of, home_of, HasTaker, Kept}
-use Rattle.bd_driver.specs.declared.view.View.{View}
-use Rattle.bd_driver.specs.declared.slot.Slot.{Slot}
-use Rattle.bd_driver.specs.declared.slot.Slot.TheVariants.{Home}
-use Rattle.bd_driver.specs.Steps.{Hands, entries_in, took_at, took, published_at, published, put_at, put}
-use Rattle.bd_driver.proofs.Words.{or_one_even, or_one_odd, clear_odd}
-use Rattle.bd_driver.proofs.Places.{own_grow}
-use Rattle.bd_driver.proofs.Keeping.{Granted, review, reseat, restate, repage}
-use Rattle.bd_driver.proofs.Views.{inside, keeps_taker, taker_has, starts_all}
-use Rattle.bd_driver.specs.declared.view.Handover.TheVariants.{Open}
-use Rattle.bd_driver.specs.declared.view.Picking.TheVariants.{Nothing}
-use Rattle.bd_driver.specs.Mailboxes.{PickedAs, mark, inside_of, pending, since_of, MailboxFits}
-use Rattle.bd_driver.proofs.Mailboxes.{longer, fits_longer, open_mailbox, relog}
-use Rattle.bd_driver.proofs.Looks.{found_word, found_page, of_one}
+use Rattle.bd_driver.proofs.{Keeping.{Granted, repage, reseat, restate, review}, Looks.{found_page, found_word, of_one}, Mailboxes.{fits_longer, longer, open_mailbox, relog}, PageWord.{clear_odd, or_one_even, or_one_odd}, Places.{own_grow}, Views.{inside, keeps_taker, starts_all, taker_has}, Words.{AllBy, Allows, Bool, Entry, Hands, HasTaker, Home, IsPage, Kept, List, MailboxFits, Nothing, Open, Option, PickedAs, Slot, State, View, [], ap, append-nil, arith, bit_and, bit_of, bit_or, entries_in, eq-eqb, false, get_elem?, get_or, gives, history_of, home_of, inl, inr, inside_of, keeps, length, length-append, map, mark, ne_eqb, none, page_word, pending, places, places_of, published, published_at, put, put_at, put_back, ready_of, refl, rest, set, set_here, since_of, some, some-injective, some-ne-none, step, subst, sym, takes, took, took_at, true, true≢false, view_of, ℕ, ⊎_elim, ◌%◌, ◌++◌, ◌+◌, ◌-◌, ◌<◌, ◌∙◌, ◌∷◌, ◌≡◌, ◌≤◌, ◌⊎◌}}
 
 turn_cases : (o : Option ℕ) → (o ≡ none) ⊎ ((t : ℕ) × (o ≡ some t))
 turn_cases none = inl refl

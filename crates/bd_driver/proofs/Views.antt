@@ -1,18 +1,5 @@
 -- Views in their places.
-use Rattle.std.proofs.Common.{◌≡◌, ◌≢◌, ℕ, zero, suc, ◌<◌, true, List, [], ◌∷◌, ◌++◌, length, set, sym, ap, ◌∙◌, subst, ⊎_elim, arith, append_assoc, append-nil}
-use mathlib.Core.Option.{Option, none, some, some-ne-none, some-injective}
-use mathlib.Core.Logic.{dite}
-use native.Mathlib.Decide.{ℕ_discrete}
-use lib.ListN.{get_elem?}
-use Rattle.atomic_table.proofs.Lists.{at_set, set_here, set_else}
-use Rattle.bd_space.specs.declared.step.Entry.{Entry}
-use Rattle.bd_driver.specs.declared.view.View.{View}
-use Rattle.bd_driver.specs.declared.view.Picking.{Picking}
-use Rattle.bd_driver.specs.declared.view.Picking.TheVariants.{Nothing}
-use Rattle.bd_driver.specs.Mailboxes.{Mailbox, PickedAs}
-use Rattle.bd_space.specs.Histories.{BeginsWith}
-use Rattle.bd_driver.specs.Views.{Each}
-use Rattle.bd_driver.specs.Rule.{HasTaker}
+use Rattle.bd_driver.proofs.Words.{BeginsWith, Each, Entry, HasTaker, List, Mailbox, Nothing, Option, PickedAs, Picking, View, [], ap, append-nil, append_assoc, arith, at_set, dite, get_elem?, length, none, set, set_else, set_here, some, some-injective, some-ne-none, subst, suc, sym, true, zero, ℕ, ℕ_discrete, ⊎_elim, ◌++◌, ◌<◌, ◌∙◌, ◌∷◌, ◌≡◌, ◌≢◌}
 
 pub inside : {A : Type 0} (l : List A) (i : ℕ) (a : A) → get_elem? l i ≡ some a → i < length l
 inside [] i a e = absurd (some-ne-none a (sym e))

@@ -1,24 +1,6 @@
 -- What a whole call says, from what its parts say.
-use Rattle.std.proofs.Common.{◌≡◌, ℕ, ◌-◌, ◌≤◌, List, [], ◌++◌, length, Some, refl, sym, ap, ◌∙◌, subst, arith, length-append, append-nil}
-use Rattle.bd_space.specs.declared.step.Entry.{Entry}
-use Rattle.bd_space.specs.declared.step.Request.{Request}
-use Rattle.bd_space.specs.declared.step.Answer.{Answer}
-use Rattle.bd_space.specs.Histories.{History, HasPlace, BeginsWith, history_of}
-use Rattle.bd_space.specs.Runs.{AllBy, HasRun, IsRun, HasEntry, IsAtLimit}
-use Rattle.bd_driver.specs.Views.{places, view_of}
-use Rattle.std.specs.Prelude.{Result, Ok, Err, MatchResult, IfOk, IfErr, OnErr}
-use Rattle.bd_engine.specs.declared.run.Span.{Span}
-use Rattle.bd_engine.specs.StepError.{StepError}
+use Rattle.bd_driver.proofs.{Views.{starts_longer}, Words.{AllBy, Answer, Back, BeginsWith, Calls, Done, Entry, Err, Follows, FullOnly, Gives, Hands, HasEntry, HasPlace, HasRun, History, IfErr, IfOk, IsAtLimit, IsRun, IsWhy, List, MatchResult, MemoryOnly, Ok, OnErr, PageSteps, Request, Result, Slot, Some, Span, StepError, Takes, View, Why, [], ap, append-nil, arith, history_of, length, length-append, outcome_of, places, published_at, put_at, reason_of, refl, subst, sym, took_at, view_of, ℕ, ◌++◌, ◌-◌, ◌∙◌, ◌≡◌, ◌≤◌}}
 use Rattle.bd_engine.specs.StepError.TheVariants.{NoMemory as Memory, HistoryFull as Full}
-use Rattle.bd_engine.specs.Refusals.{FullOnly, MemoryOnly}
-use Rattle.bd_driver.specs.declared.view.View.{View}
-use Rattle.bd_driver.specs.declared.outcome.Outcome.TheVariants.{Done, Back}
-use Rattle.bd_driver.specs.declared.outcome.Why.{Why}
-use Rattle.bd_driver.specs.declared.slot.Slot.{Slot}
-use Rattle.bd_driver.specs.Reasons.{outcome_of, reason_of}
-use Rattle.bd_driver.specs.Steps.{Hands, took_at, published_at, put_at}
-use Rattle.bd_driver.specs.Driver.{Takes, Follows, Gives, IsWhy, PageSteps, Calls}
-use Rattle.bd_driver.proofs.Views.{starts_longer}
 
 -- what an engine has run that was taken is of this seat, and comes after what the seat has then seen
 pub run_follows : (v : View) (number : ℕ) (me : number ≡ v.who) (xs : List (ℕ × Slot)) (m : Hands) (e0 e1 : History) (request : Request) → Takes v xs m (Some e0)

@@ -1,19 +1,10 @@
 -- What `call`, `look` and their parts do to the view of a seat.
 use Rattle.std.specs.Prelude.{◌≡◌, ℕ, ◌+◌, ◌/◌, ◌%◌, ◌<◌, ◌≤◌, ◌==◌, List, [], ◌∷◌, ◌++◌, length, Option, MatchOption}
-use Rattle.bd_space.specs.declared.step.Entry.{Entry}
-use Rattle.bd_space.specs.declared.step.Request.{Request}
-use Rattle.bd_space.specs.declared.step.Answer.{Answer}
-use Rattle.bd_space.specs.Histories.{History, HasPlace, BeginsWith, history_of}
-use Rattle.bd_driver.specs.Views.{ready_of, places}
-use Rattle.bd_space.specs.Runs.{AllBy, IsRun, HasEntry, IsAtLimit}
-use Rattle.bd_driver.specs.declared.view.View.{View}
-use Rattle.bd_driver.specs.declared.slot.Slot.{Slot}
-use Rattle.bd_driver.specs.declared.slot.Slot.TheVariants.{Empty}
-use Rattle.bd_driver.specs.declared.page.Page.{Page}
-use Rattle.bd_driver.specs.declared.outcome.Outcome.{Outcome}
-use Rattle.bd_driver.specs.declared.outcome.Outcome.TheVariants.{Done, Back, Handed}
-use Rattle.bd_driver.specs.declared.outcome.Why.{Why}
-use Rattle.bd_driver.specs.declared.outcome.Why.TheVariants.{Taken, NoMemory, HistoryFull, Withdrawn}
+use Rattle.bd_space.specs.{declared.step.Entry.{Entry}, declared.step.Request.{Request}, declared.step.Answer.{Answer}}
+use Rattle.bd_space.specs.{Histories.{History, HasPlace, BeginsWith, history_of}, Runs.{AllBy, IsRun, HasEntry, IsAtLimit}}
+use Rattle.bd_driver.specs.{Views.{ready_of, places}, declared.view.View.{View}, declared.slot.Slot.{Slot}, declared.slot.Slot.TheVariants.{Empty}}
+use Rattle.bd_driver.specs.{declared.page.Page.{Page}, declared.outcome.Outcome.{Outcome}, declared.outcome.Outcome.TheVariants.{Done, Back, Handed}}
+use Rattle.bd_driver.specs.{declared.outcome.Why.{Why}, declared.outcome.Why.TheVariants.{Taken, NoMemory, HistoryFull, Withdrawn}}
 use Rattle.bd_driver.specs.Steps.{Hands, looked_at, took_at, published_at, put_at}
 
 -- one load of the page was made

@@ -1,8 +1,6 @@
 -- When `new` fails.
 use Rattle.std.specs.Prelude.{ℕ, ◌<◌, ◌≤◌}
-use Rattle.bd_uapi.specs.Limits.{most_seats, IsSeats}
-use Rattle.bd_uapi.specs.declared.fault.Fault.{Fault}
-use Rattle.bd_uapi.specs.declared.fault.Fault.TheVariants.{SeatCount, NoMemory}
+use Rattle.bd_uapi.specs.{Limits.{most_seats, IsSeats}, declared.fault.Fault.{Fault}, declared.fault.Fault.TheVariants.{SeatCount, NoMemory}}
 
 abbrev pub FaultFits : Fault → ℕ → Type 0
 FaultFits SeatCount seats = 1 ≤ seats → most_seats < seats

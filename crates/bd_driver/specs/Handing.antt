@@ -1,13 +1,9 @@
 -- What the calls on mailboxes say.
 use Rattle.std.specs.Prelude.{◌≡◌, ◌≢◌, ℕ}
-use Rattle.bd_space.specs.declared.step.Request.{Request}
-use Rattle.bd_driver.specs.declared.view.View.{View}
-use Rattle.bd_driver.specs.declared.view.Handover.TheVariants.{Waiting}
-use Rattle.bd_driver.specs.declared.outcome.Outcome.{Outcome}
+use Rattle.bd_space.specs.{declared.step.Request.{Request}, Histories.{BeginsWith}}
+use Rattle.bd_driver.specs.{declared.view.View.{View}, declared.view.Handover.TheVariants.{Waiting}, declared.outcome.Outcome.{Outcome}}
 use Rattle.bd_driver.specs.declared.outcome.Outcome.TheVariants.{Done, Back, Handed}
-use Rattle.bd_driver.specs.declared.outcome.Why.TheVariants.{Taken, NoMemory, HistoryFull, Withdrawn}
-use Rattle.bd_space.specs.Histories.{BeginsWith}
-use Rattle.bd_driver.specs.Mailboxes.{IsTold}
+use Rattle.bd_driver.specs.{declared.outcome.Why.TheVariants.{Taken, NoMemory, HistoryFull, Withdrawn}, Mailboxes.{IsTold}}
 use Rattle.bd_driver.specs.Steps.{OwnsAll, posted_at, withdrawn_at, kept_at, collected_at, missed_at}
 
 -- by one post the request is handed over

@@ -2,21 +2,12 @@
 use Rattle.std.specs.Prelude.{◌≡◌, ℕ, ◌+◌, ◌-◌, ◌≤◌, List, [], ◌++◌, length, ◌⊎◌}
 use mathlib.Core.Option.{Option, none, some}
 use lib.ListN.{get_elem?}
-use Rattle.bd_space.specs.declared.step.Entry.{Entry}
-use Rattle.bd_space.specs.declared.step.Request.{Request}
-use Rattle.bd_space.specs.declared.step.Answer.{Answer}
-use Rattle.bd_space.specs.Histories.{HasPlace, BeginsWith, history_of}
-use Rattle.bd_space.specs.Runs.{AllBy, IsRun, HasEntry, IsAtLimit}
-use Rattle.bd_driver.specs.Views.{places}
-use Rattle.bd_driver.specs.declared.view.Handover.{Handover}
-use Rattle.bd_driver.specs.declared.view.Handover.TheVariants.{Shut, Open, Waiting}
-use Rattle.bd_driver.specs.declared.view.Picking.{Picking}
-use Rattle.bd_driver.specs.declared.view.Picking.TheVariants.{Nothing, Picked}
-use Rattle.bd_driver.specs.declared.outcome.Why.{Why}
-use Rattle.bd_driver.specs.declared.outcome.Why.TheVariants.{Taken, NoMemory, HistoryFull, Withdrawn}
-use Rattle.bd_driver.specs.declared.outcome.Outcome.{Outcome}
-use Rattle.bd_driver.specs.declared.outcome.Outcome.TheVariants.{Done, Back, Handed}
-use Rattle.bd_driver.specs.declared.slot.Slot.{Slot}
+use Rattle.bd_space.specs.{declared.step.Entry.{Entry}, declared.step.Request.{Request}, declared.step.Answer.{Answer}}
+use Rattle.bd_space.specs.{Histories.{HasPlace, BeginsWith, history_of}, Runs.{AllBy, IsRun, HasEntry, IsAtLimit}}
+use Rattle.bd_driver.specs.{Views.{places}, declared.view.Handover.{Handover}, declared.view.Handover.TheVariants.{Shut, Open, Waiting}}
+use Rattle.bd_driver.specs.{declared.view.Picking.{Picking}, declared.view.Picking.TheVariants.{Nothing, Picked}, declared.outcome.Why.{Why}}
+use Rattle.bd_driver.specs.{declared.outcome.Why.TheVariants.{Taken, NoMemory, HistoryFull, Withdrawn}, declared.outcome.Outcome.{Outcome}}
+use Rattle.bd_driver.specs.{declared.outcome.Outcome.TheVariants.{Done, Back, Handed}, declared.slot.Slot.{Slot}}
 use Rattle.bd_driver.specs.declared.slot.Slot.TheVariants.{Posted, Answered, Empty}
 
 -- What a mailbox is to the rule. Posted and after, it has the request and how long the history was that its poster had

@@ -1,13 +1,8 @@
 -- What came of a request that the engine ran or refused.
 use Rattle.std.specs.Prelude.{Result, Ok, Err}
-use Rattle.bd_space.specs.declared.step.Request.{Request}
-use Rattle.bd_space.specs.declared.step.Answer.{Answer}
-use Rattle.bd_engine.specs.declared.run.Span.{Span}
-use Rattle.bd_engine.specs.StepError.{StepError}
-use Rattle.bd_engine.specs.StepError.TheVariants.{NoMemory as Memory, HistoryFull as Full}
-use Rattle.bd_driver.specs.declared.outcome.Outcome.{Outcome}
-use Rattle.bd_driver.specs.declared.outcome.Outcome.TheVariants.{Done, Back}
-use Rattle.bd_driver.specs.declared.outcome.Why.{Why}
+use Rattle.bd_space.specs.{declared.step.Request.{Request}, declared.step.Answer.{Answer}}
+use Rattle.bd_engine.specs.{declared.run.Span.{Span}, StepError.{StepError}, StepError.TheVariants.{NoMemory as Memory, HistoryFull as Full}}
+use Rattle.bd_driver.specs.{declared.outcome.Outcome.{Outcome}, declared.outcome.Outcome.TheVariants.{Done, Back}, declared.outcome.Why.{Why}}
 use Rattle.bd_driver.specs.declared.outcome.Why.TheVariants.{NoMemory, HistoryFull}
 
 -- why a request comes back that the engine refused

@@ -1,11 +1,7 @@
 -- A seat between two calls.
 use Rattle.std.specs.Prelude.{◌≡◌, ℕ, suc, ◌<◌, Bool, true, false, List, [], ◌∷◌}
-use Rattle.bd_driver.specs.declared.view.Handover.{Handover}
-use Rattle.bd_driver.specs.declared.view.Handover.TheVariants.{Shut, Open, Waiting}
-use Rattle.bd_driver.specs.declared.view.Picking.TheVariants.{Nothing}
-use Rattle.bd_driver.specs.declared.slot.Slot.{Slot}
-use Rattle.bd_driver.specs.declared.slot.Slot.TheVariants.{Empty}
-use Rattle.bd_driver.specs.Views.{view_of}
+use Rattle.bd_driver.specs.{declared.view.Handover.{Handover}, declared.view.Handover.TheVariants.{Shut, Open, Waiting}}
+use Rattle.bd_driver.specs.{declared.view.Picking.TheVariants.{Nothing}, declared.slot.Slot.{Slot}, declared.slot.Slot.TheVariants.{Empty}, Views.{view_of}}
 use Rattle.bd_driver.specs.Steps.{Hands}
 
 abbrev pub is_waiting : Handover → Bool

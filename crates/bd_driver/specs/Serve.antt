@@ -1,21 +1,11 @@
 -- What the parts of `serve` do to the view and the hands of a seat.
 use Rattle.std.specs.Prelude.{◌≡◌, ◌≢◌, ◌⊎◌, ℕ, ◌+◌, ◌≤◌, Bool, true, false, List, [], ◌∷◌, ◌++◌, length, slice_set, MatchBool, Option, MatchOption, ◌==◌, if◌then◌else◌}
-use Rattle.bd_space.specs.declared.step.Entry.{Entry}
-use Rattle.bd_space.specs.declared.step.Request.{Request}
-use Rattle.bd_space.specs.declared.step.Answer.{Answer}
-use Rattle.bd_space.specs.Histories.{History, history_of}
+use Rattle.bd_space.specs.{declared.step.Entry.{Entry}, declared.step.Request.{Request}, declared.step.Answer.{Answer}, Histories.{History, history_of}}
 use Rattle.bd_space.specs.Runs.{AllBy, HasRun}
-use Rattle.bd_driver.specs.Views.{places, view_of, tick}
-use Rattle.bd_driver.specs.declared.outcome.Outcome.{Outcome}
-use Rattle.bd_driver.specs.Mailboxes.{RunAt, IsTold, IsReason, answer_places}
-use Rattle.bd_driver.specs.declared.view.View.{View}
-use Rattle.bd_driver.specs.declared.view.Tally.{Tally}
-use Rattle.bd_driver.specs.declared.view.Letter.{Letter}
-use Rattle.bd_driver.specs.declared.outcome.Outcome.TheVariants.{Done, Back, Handed}
-use Rattle.bd_driver.specs.declared.view.Picking.TheVariants.{Nothing, Picked}
-use Rattle.bd_driver.specs.declared.slot.Slot.{Slot}
-use Rattle.bd_driver.specs.declared.slot.Slot.TheVariants.{Empty}
-use Rattle.bd_driver.specs.Steps.{Hands, tally_at, tried_at, picked_at}
+use Rattle.bd_driver.specs.{Views.{places, view_of, tick}, declared.outcome.Outcome.{Outcome}, Mailboxes.{RunAt, IsTold, IsReason, answer_places}}
+use Rattle.bd_driver.specs.{declared.view.View.{View}, declared.view.Tally.{Tally}, declared.view.Letter.{Letter}}
+use Rattle.bd_driver.specs.{declared.outcome.Outcome.TheVariants.{Done, Back, Handed}, declared.view.Picking.TheVariants.{Nothing, Picked}}
+use Rattle.bd_driver.specs.{declared.slot.Slot.{Slot}, declared.slot.Slot.TheVariants.{Empty}, Steps.{Hands, tally_at, tried_at, picked_at}}
 use Rattle.atomic_table.specs.Table.{rest}
 
 -- the seat is the taker between two mailboxes: its engine's history is what it has seen, and each pick has its answer

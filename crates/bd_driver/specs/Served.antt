@@ -1,12 +1,8 @@
 -- What `serve` says.
 use Rattle.std.specs.Prelude.{◌≡◌, ℕ, ◌+◌, ◌%◌, List, ◌++◌, length}
-use Rattle.bd_space.specs.declared.step.Entry.{Entry}
-use Rattle.bd_driver.specs.declared.view.View.{View}
-use Rattle.bd_driver.specs.declared.view.Letter.{Letter}
-use Rattle.bd_driver.specs.declared.outcome.Served.{Served}
-use Rattle.bd_driver.specs.declared.outcome.Served.TheVariants.{Taken, Ran}
-use Rattle.bd_space.specs.Histories.{BeginsWith}
-use Rattle.bd_driver.specs.Serve.{ticks, ones, letter_ticks, AnswersAll}
+use Rattle.bd_space.specs.{declared.step.Entry.{Entry}, Histories.{BeginsWith}}
+use Rattle.bd_driver.specs.{declared.view.View.{View}, declared.view.Letter.{Letter}, declared.outcome.Served.{Served}}
+use Rattle.bd_driver.specs.{declared.outcome.Served.TheVariants.{Taken, Ran}, Serve.{ticks, ones, letter_ticks, AnswersAll}}
 
 -- after a take that found the engine away nothing else is done
 pub record ServesNothing (v w : View) : Type 0 where

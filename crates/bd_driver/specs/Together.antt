@@ -3,17 +3,10 @@ use Rattle.std.specs.Prelude.{◌++◌, ◌-◌, ◌⊎◌, ◌≡◌, ℕ, zero
 use mathlib.Core.Option.{some}
 use lib.ListN.{get_elem?}
 use Rattle.atomic_table.specs.Seated.{TableId}
-use Rattle.bd_space.specs.declared.step.Entry.{Entry}
-use Rattle.bd_space.specs.Histories.{IsHistory, BeginsWith, history_of}
-use Rattle.bd_driver.specs.Views.{places_of, places, tick, seated}
-use Rattle.bd_driver.specs.declared.view.Tally.{Tally}
-use Rattle.bd_driver.specs.declared.view.View.{View}
-use Rattle.bd_space.specs.declared.step.Request.{Request}
+use Rattle.bd_space.specs.{declared.step.Entry.{Entry}, Histories.{IsHistory, BeginsWith, history_of}, declared.step.Request.{Request}}
 use Rattle.bd_space.specs.declared.step.Answer.{Answer}
-use Rattle.bd_driver.specs.declared.view.Handover.{Handover}
-use Rattle.bd_driver.specs.declared.view.Handover.TheVariants.{Shut, Open, Waiting}
-use Rattle.bd_driver.specs.Mailboxes.{RunAt}
-use Rattle.bd_driver.specs.States.{SeatState}
+use Rattle.bd_driver.specs.{Views.{places_of, places, tick, seated}, declared.view.Tally.{Tally}, declared.view.View.{View}, declared.view.Handover.{Handover}}
+use Rattle.bd_driver.specs.{declared.view.Handover.TheVariants.{Shut, Open, Waiting}, Mailboxes.{RunAt}, States.{SeatState}}
 
 -- that many new seats of a table, by number from this one on
 abbrev pub new_seats : TableId → ℕ → ℕ → ℕ → List SeatState

@@ -1,10 +1,7 @@
 -- Views of seats, and what a history says of them.
 use Rattle.std.specs.Prelude.{◌≡◌, ℕ, zero, suc, ◌+◌, ◌/◌, ◌%◌, ◌==◌, false, cond, List, [], ◌∷◌, length}
-use Rattle.bd_space.specs.declared.step.Entry.{Entry}
-use Rattle.bd_space.specs.Histories.{ready_bits, history_of}
-use Rattle.bd_driver.specs.declared.view.View.{View}
-use Rattle.bd_driver.specs.declared.view.Tally.{Tally}
-use Rattle.bd_driver.specs.declared.view.Handover.TheVariants.{Shut, Open}
+use Rattle.bd_space.specs.{declared.step.Entry.{Entry}, Histories.{ready_bits, history_of}}
+use Rattle.bd_driver.specs.{declared.view.View.{View}, declared.view.Tally.{Tally}, declared.view.Handover.TheVariants.{Shut, Open}}
 use Rattle.bd_driver.specs.declared.view.Picking.TheVariants.{Nothing}
 
 -- The ready seats after a history, bit i for seat i.

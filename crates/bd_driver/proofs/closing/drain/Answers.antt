@@ -1,7 +1,4 @@
-use Rattle.std.proofs.Common.{◌≡◌, ◌+◌, ◌<◌, ◌≤◌, false, Bool, List, subst, sym, ◌∙◌, arith}
-use Rattle.std.specs.Prelude.{IsTrue, slice_index_or}
-use Rattle.std.specs.Slots.{slots_filled}
-use Rattle.bd_driver.proofs.Emptied.{emptied, left_after}
+use Rattle.bd_driver.proofs.{Emptied.{emptied, left_after}, Words.{Bool, IsTrue, List, arith, false, slice_index_or, slots_filled, subst, sym, ◌+◌, ◌<◌, ◌∙◌, ◌≡◌, ◌≤◌}}
 use Rattle.bd_driver.proofs.closing.drain.Goals as goal
 
 -- src/closing.rt:88:5

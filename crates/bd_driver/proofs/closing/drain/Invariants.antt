@@ -1,6 +1,4 @@
-use Rattle.std.proofs.Common.{◌≡◌, ℕ, ◌<◌, ◌≤◌, false}
-use Rattle.std.specs.Prelude.{IsTrue, slice_index_or}
-use Rattle.std.specs.Slots.{slots_len, slots_filled}
+use Rattle.bd_driver.proofs.Words.{IsTrue, false, slice_index_or, slots_filled, slots_len, ℕ, ◌<◌, ◌≡◌, ◌≤◌}
 use Rattle.bd_driver.proofs.closing.drain.Given as goal
 
 abbrev pub invariant-loop-at : goal.invariant-loop-at

@@ -1,9 +1,4 @@
-use Rattle.std.proofs.Common.{rules, ◌≡◌, sym, ap, ◌∙◌, subst, Some}
-use Rattle.bd_driver.specs.Views.{Each, Idle}
-use Rattle.std.proofs.lemmas.List.Elements.{All-pop}
-use Rattle.bd_driver.specs.Steps.{Hands}
-use Rattle.bd_driver.proofs.Ends.{gathers}
-use Rattle.bd_driver.proofs.Seats.{own}
+use Rattle.bd_driver.proofs.{Ends.{gathers}, Seats.{own}, Words.{All-pop, Each, Hands, Idle, Some, ap, rules, subst, sym, ◌∙◌, ◌≡◌}}
 use Rattle.bd_driver.proofs.closing.gather.Goals as goal
 
 pub shut-table_seat-requires : goal.shut-table_seat-requires

@@ -1,7 +1,4 @@
-use Rattle.std.proofs.Common.{◌≡◌, [], ◌++◌, List, All}
-use Rattle.bd_driver.specs.States.{SeatState}
-use Rattle.bd_driver.specs.Views.{Each, Idle}
-use Rattle.bd_driver.specs.Together.{views_of}
+use Rattle.bd_driver.proofs.Words.{All, Each, Idle, List, SeatState, [], views_of, ◌++◌, ◌≡◌}
 use Rattle.bd_driver.proofs.closing.gather.Given as goal
 
 abbrev pub invariant-loop-seat : goal.invariant-loop-seat

@@ -1,7 +1,4 @@
-use Rattle.std.proofs.Common.{rules, ◌≡◌, suc, ◌+◌, [], sym, ap, ◌∙◌, arith, Bool}
-use Rattle.std.specs.Prelude.{not}
-use Rattle.bd_driver.specs.Views.{view_of}
-use Rattle.bd_driver.proofs.OwnMailbox.{open_hand, open_me, closes_at}
+use Rattle.bd_driver.proofs.{OwnMailbox.{closes_at, open_hand, open_me}, Words.{Bool, [], ap, arith, not, rules, suc, sym, view_of, ◌+◌, ◌∙◌, ◌≡◌}}
 use Rattle.bd_driver.proofs.closing.shut.Goals as goal
 
 pub load-requires : goal.load-requires

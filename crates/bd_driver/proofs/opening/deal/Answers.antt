@@ -1,11 +1,4 @@
-use Rattle.std.proofs.Common.{rules, ◌≡◌, ℕ, suc, ◌+◌, ◌-◌, ◌<◌, [], ◌∷◌, ◌++◌, arith, sym, ap, ◌∙◌, subst}
-use Rattle.atomic_table.specs.Table.{Splits}
-use Rattle.atomic_table.specs.Seated.{TableId}
-use Rattle.bd_driver.specs.Views.{newcomers, view_of, others_of, seated}
-use Rattle.bd_driver.specs.Rule.{Kept}
-use Rattle.bd_driver.specs.Steps.{Hands}
-use Rattle.bd_driver.specs.Together.{new_seats}
-use Rattle.bd_driver.proofs.Deals.{deals_at, new_seats_more}
+use Rattle.bd_driver.proofs.{Deals.{deals_at, new_seats_more}, Words.{Hands, Kept, Splits, TableId, [], ap, arith, new_seats, newcomers, others_of, rules, seated, subst, suc, sym, view_of, ℕ, ◌++◌, ◌+◌, ◌-◌, ◌<◌, ◌∙◌, ◌∷◌, ◌≡◌}}
 use Rattle.bd_driver.proofs.opening.deal.Goals as goal
 
 left_is : (me : Hands) (seats number : ℕ) → me ≡ (newcomers seats number (seats - number), []) → number < seats → me.0 ≡ newcomers seats number (suc (seats - (number + 1)))

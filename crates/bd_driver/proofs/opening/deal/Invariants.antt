@@ -1,6 +1,4 @@
-use Rattle.std.proofs.Common.{◌≡◌, ◌+◌, ◌-◌, [], vec_len, vec_capacity}
-use Rattle.bd_driver.specs.Views.{newcomers}
-use Rattle.bd_driver.specs.Together.{new_seats}
+use Rattle.bd_driver.proofs.Words.{[], new_seats, newcomers, vec_capacity, vec_len, ◌+◌, ◌-◌, ◌≡◌}
 use Rattle.bd_driver.proofs.opening.deal.Given as goal
 
 abbrev pub invariant-loop-number : goal.invariant-loop-number

@@ -1,6 +1,4 @@
-use Rattle.std.proofs.Common.{◌≡◌, ◌∷◌, ℕ, ap, ◌∙◌, arith}
-use Rattle.std.specs.Prelude.{replicate}
-use Rattle.bd_driver.specs.declared.slot.Slot.TheVariants.{Home, Empty}
+use Rattle.bd_driver.proofs.Words.{Empty, Home, ap, arith, replicate, ℕ, ◌∙◌, ◌∷◌, ◌≡◌}
 use Rattle.bd_driver.proofs.opening.lay_slots.Goals as goal
 
 -- src/opening.rt:67:1

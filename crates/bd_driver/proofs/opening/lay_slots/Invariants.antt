@@ -1,6 +1,4 @@
-use Rattle.std.proofs.Common.{◌≡◌, ◌∷◌}
-use Rattle.std.specs.Prelude.{replicate}
-use Rattle.bd_driver.specs.declared.slot.Slot.TheVariants.{Home, Empty}
+use Rattle.bd_driver.proofs.Words.{Empty, Home, replicate, ◌∷◌, ◌≡◌}
 use Rattle.bd_driver.proofs.opening.lay_slots.Given as goal
 
 abbrev pub invariant-loop-done : goal.invariant-loop-done

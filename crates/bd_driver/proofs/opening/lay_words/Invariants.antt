@@ -1,5 +1,4 @@
-use Rattle.std.proofs.Common.{◌≡◌, ◌∷◌}
-use Rattle.std.specs.Prelude.{replicate}
+use Rattle.bd_driver.proofs.Words.{replicate, ◌∷◌, ◌≡◌}
 use Rattle.bd_driver.proofs.opening.lay_words.Given as goal
 
 abbrev pub invariant-loop-done : goal.invariant-loop-done

@@ -1,7 +1,4 @@
-use Rattle.std.proofs.Common.{rules, ◌≡◌, suc, ◌+◌, refl, arith}
-use Rattle.bd_driver.proofs.OwnMailbox.{opens_at}
-use Rattle.bd_driver.specs.Views.{fresh}
-use Rattle.std.proofs.Common.{[]}
+use Rattle.bd_driver.proofs.{OwnMailbox.{opens_at}, Words.{[], arith, fresh, refl, rules, suc, ◌+◌, ◌≡◌}}
 use Rattle.bd_driver.proofs.opening.open.Goals as goal
 
 pub load-requires : goal.load-requires

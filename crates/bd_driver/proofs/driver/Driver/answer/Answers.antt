@@ -1,10 +1,4 @@
-use Rattle.std.proofs.Common.{rules, ◌≡◌, suc, ◌+◌, [], ◌∷◌, ap, ◌∙◌, arith}
-use Rattle.atomic_table.specs.Table.{rest}
-use Rattle.bd_driver.specs.declared.slot.Slot.TheVariants.{Answered, Empty}
-use Rattle.bd_driver.specs.Views.{view_of}
-use Rattle.bd_driver.specs.Steps.{Hands, outcome_in, answered_at}
-use Rattle.bd_driver.proofs.OwnMailbox.{refill}
-use Rattle.bd_driver.proofs.Serves.{answers_at}
+use Rattle.bd_driver.proofs.{OwnMailbox.{refill}, Serves.{answers_at}, Words.{Answered, Empty, Hands, [], answered_at, ap, arith, outcome_in, rest, rules, suc, view_of, ◌+◌, ◌∙◌, ◌∷◌, ◌≡◌}}
 use Rattle.bd_driver.proofs.driver.Driver.answer.Goals as goal
 
 pub swap-requires : goal.swap-requires

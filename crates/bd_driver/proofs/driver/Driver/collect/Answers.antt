@@ -1,16 +1,4 @@
-use Rattle.std.proofs.Common.{rules, ◌≡◌, ◌+◌, ◌∷◌, sym, ap, ◌∙◌, subst}
-use Rattle.atomic_table.specs.Table.{rest}
-use Rattle.bd_driver.specs.declared.view.View.{View}
-use Rattle.bd_driver.specs.declared.outcome.Outcome.{Outcome}
-use Rattle.bd_driver.specs.declared.slot.Slot.{Slot}
-use Rattle.bd_driver.specs.declared.slot.Slot.TheVariants.{Answered}
-use Rattle.bd_driver.specs.Views.{view_of}
-use Rattle.bd_driver.specs.States.{SeatState}
-use Rattle.bd_driver.specs.Rest.{is_waiting}
-use Rattle.bd_driver.specs.Steps.{Hands, outcome_in, collected_at}
-use Rattle.bd_driver.specs.Mailboxes.{IsTold}
-use Rattle.bd_driver.specs.Handing.{Collects}
-use Rattle.bd_driver.proofs.OwnMailbox.{collects_at, told_collects, first_held}
+use Rattle.bd_driver.proofs.{OwnMailbox.{collects_at, first_held, told_collects}, Words.{Answered, Collects, Hands, IsTold, Outcome, SeatState, Slot, View, ap, collected_at, is_waiting, outcome_in, rest, rules, subst, sym, view_of, ◌+◌, ◌∙◌, ◌∷◌, ◌≡◌}}
 use Rattle.bd_driver.proofs.driver.Driver.collect.Goals as goal
 
 pub compare_exchange-found-requires : goal.compare_exchange-found-requires

@@ -1,9 +1,4 @@
-use Rattle.std.proofs.Common.{[], rules, ap, ◌∙◌}
-use Rattle.bd_space.specs.Histories.{History}
-use Rattle.bd_driver.specs.States.{DriverState}
-use Rattle.bd_driver.specs.Steps.{Hands}
-use Rattle.bd_driver.proofs.Deals.{enters}
-use Rattle.bd_driver.proofs.Ends.{ends_at, final_record, no_history}
+use Rattle.bd_driver.proofs.{Deals.{enters}, Ends.{ends_at, final_record, no_history}, Words.{DriverState, Hands, History, [], ap, rules, ◌∙◌}}
 use Rattle.bd_driver.proofs.driver.Driver.finish.Goals as goal
 
 pub load_new_seat-keeper-requires : goal.load_new_seat-keeper-requires

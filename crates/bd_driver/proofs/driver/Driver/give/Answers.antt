@@ -1,11 +1,4 @@
-use Rattle.std.proofs.Common.{ℕ, subst, rules, ◌<◌, length, ap, ◌∙◌}
-use Rattle.bd_driver.specs.Views.{ready_of, view_of}
-use Rattle.bd_space.specs.Histories.{history_of}
-use Rattle.bd_driver.specs.Words.{page_word}
-use Rattle.atomic_table.specs.Table.{rest}
-use Rattle.bd_driver.specs.declared.slot.Slot.TheVariants.{Home, Empty}
-use Rattle.bd_driver.specs.Steps.{Hands, published_at}
-use Rattle.bd_driver.proofs.Moves.{placed, publishes_at, after_publish, puts_at, after_put}
+use Rattle.bd_driver.proofs.{Moves.{after_publish, after_put, placed, publishes_at, puts_at}, Words.{Empty, Hands, Home, ap, history_of, length, page_word, published_at, ready_of, rest, rules, subst, view_of, ℕ, ◌<◌, ◌∙◌}}
 use Rattle.bd_driver.proofs.driver.Driver.give.Goals as goal
 
 pub swap-requires : goal.swap-requires

@@ -1,5 +1,4 @@
-use Rattle.std.proofs.Common.{rules}
-use Rattle.bd_driver.proofs.Looks.{looks}
+use Rattle.bd_driver.proofs.{Looks.{looks}, Words.{rules}}
 use Rattle.bd_driver.proofs.driver.Driver.look.Goals as goal
 
 pub load-requires : goal.load-requires

@@ -1,13 +1,4 @@
-use Rattle.std.proofs.Common.{◌≡◌, ℕ, ◌-◌, ◌<◌, [], ◌∷◌, arith, sym, ap, ◌∙◌, subst, List}
-use Rattle.std.specs.Prelude.{replicate}
-use Rattle.atomic_table.specs.Table.{opening}
-use Rattle.bd_space.specs.Histories.{History}
-use Rattle.bd_driver.specs.Views.{ready_of, newcomers}
-use Rattle.bd_driver.specs.Words.{page_word}
-use Rattle.bd_driver.specs.Rule.{Kept}
-use Rattle.bd_driver.specs.declared.slot.Slot.{Slot}
-use Rattle.bd_driver.proofs.Deals.{opens}
-use Rattle.bd_driver.proofs.Seats.{own_all}
+use Rattle.bd_driver.proofs.{Deals.{opens}, Seats.{own_all}, Words.{History, Kept, List, Slot, [], ap, arith, newcomers, opening, page_word, ready_of, replicate, subst, sym, ℕ, ◌-◌, ◌<◌, ◌∙◌, ◌∷◌, ◌≡◌}}
 use Rattle.bd_driver.proofs.driver.Driver.new.Goals as goal
 
 pub new-requires : goal.new-requires

@@ -1,8 +1,4 @@
-use Rattle.std.proofs.Common.{rules, ◌≡◌, suc, ◌+◌, ap, arith}
-use Rattle.bd_driver.specs.declared.slot.Slot.TheVariants.{Posted}
-use Rattle.bd_driver.specs.Steps.{Hands}
-use Rattle.bd_driver.proofs.Serves.{picks_at}
-use Rattle.bd_driver.proofs.OwnMailbox.{first_held}
+use Rattle.bd_driver.proofs.{OwnMailbox.{first_held}, Serves.{picks_at}, Words.{Hands, Posted, ap, arith, rules, suc, ◌+◌, ◌≡◌}}
 use Rattle.bd_driver.proofs.driver.Driver.pick.Goals as goal
 
 pub compare_exchange-requires : goal.compare_exchange-requires

@@ -1,14 +1,4 @@
-use Rattle.std.proofs.Common.{rules, refl, sym, ap, ◌∙◌, subst, Bool}
-use Rattle.std.specs.Prelude.{is_none}
-use Rattle.atomic_table.specs.Seated.{TableId}
-use Rattle.bd_space.specs.declared.step.Request.{Request}
-use Rattle.bd_driver.specs.declared.view.View.{View}
-use Rattle.bd_driver.specs.Views.{view_of}
-use Rattle.bd_driver.specs.States.{SeatState}
-use Rattle.bd_driver.specs.Rest.{is_waiting, IsAtRest}
-use Rattle.bd_driver.specs.Steps.{Hands}
-use Rattle.bd_driver.specs.Handing.{Posts}
-use Rattle.bd_driver.proofs.OwnMailbox.{posts_at, after_post, posted_rests}
+use Rattle.bd_driver.proofs.{OwnMailbox.{after_post, posted_rests, posts_at}, Words.{Bool, Hands, IsAtRest, Posts, Request, SeatState, TableId, View, ap, is_none, is_waiting, refl, rules, subst, sym, view_of, ◌∙◌}}
 use Rattle.bd_driver.proofs.driver.Driver.post.Goals as goal
 
 pub swap-requires : goal.swap-requires

@@ -1,11 +1,4 @@
-use Rattle.std.proofs.Common.{subst, rules, ℕ, ◌+◌, ◌<◌, length, ap, ◌∙◌}
-use Rattle.atomic_table.specs.Table.{rest}
-use Rattle.bd_driver.specs.Views.{ready_of, view_of}
-use Rattle.bd_driver.specs.Words.{page_word}
-use Rattle.bd_driver.specs.declared.slot.Slot.TheVariants.{Home, Empty}
-use Rattle.bd_driver.specs.Steps.{Hands, served_at}
-use Rattle.bd_driver.proofs.OwnMailbox.{refill, first_held}
-use Rattle.bd_driver.proofs.Serves.{serves_at, after_serve}
+use Rattle.bd_driver.proofs.{OwnMailbox.{first_held, refill}, Serves.{after_serve, serves_at}, Words.{Empty, Hands, Home, ap, length, page_word, ready_of, rest, rules, served_at, subst, view_of, ℕ, ◌+◌, ◌<◌, ◌∙◌}}
 use Rattle.bd_driver.proofs.driver.Driver.publish_for.Goals as goal
 
 pub swap-requires : goal.swap-requires

@@ -1,8 +1,4 @@
-use Rattle.std.proofs.Common.{rules}
-use Rattle.atomic_table.specs.Table.{rest}
-use Rattle.bd_driver.specs.declared.slot.Slot.TheVariants.{Home, Empty}
-use Rattle.bd_driver.specs.Views.{view_of}
-use Rattle.bd_driver.proofs.Moves.{placed, puts_at, after_put}
+use Rattle.bd_driver.proofs.{Moves.{after_put, placed, puts_at}, Words.{Empty, Home, rest, rules, view_of}}
 use Rattle.bd_driver.proofs.driver.Driver.put_home.Goals as goal
 
 pub fetch_and-requires : goal.fetch_and-requires

@@ -1,11 +1,4 @@
-use Rattle.std.proofs.Common.{ℕ, List, ◌≡◌, ap, subst}
-use Rattle.bd_driver.specs.declared.view.View.{View}
-use Rattle.bd_driver.specs.Views.{view_of}
-use Rattle.atomic_table.specs.Table.{rest}
-use Rattle.bd_driver.specs.declared.slot.Slot.{Slot}
-use Rattle.bd_driver.specs.Driver.{Gives, Calls}
-use Rattle.bd_driver.specs.Reasons.{outcome_of}
-use Rattle.bd_driver.proofs.WholeCalls.{run_follows, call_ends}
+use Rattle.bd_driver.proofs.{WholeCalls.{call_ends, run_follows}, Words.{Calls, Gives, List, Slot, View, ap, outcome_of, rest, subst, view_of, ℕ, ◌≡◌}}
 use Rattle.bd_driver.proofs.driver.Driver.run.Goals as goal
 
 pub returns-clause-calls : goal.returns-clause-calls

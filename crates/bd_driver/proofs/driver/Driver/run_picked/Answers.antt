@@ -1,11 +1,4 @@
-use Rattle.std.proofs.Common.{◌≡◌, sym, subst}
-use Rattle.std.specs.Prelude.{MatchResult}
-use Rattle.bd_space.specs.Histories.{History}
-use Rattle.bd_space.specs.declared.step.Request.{Request}
-use Rattle.bd_driver.specs.Reasons.{reason_of}
-use Rattle.bd_driver.specs.declared.outcome.Outcome.TheVariants.{Done, Back}
-use Rattle.bd_driver.specs.Serve.{Serving, IsPicked, RanPicked}
-use Rattle.bd_driver.proofs.Serves.{follows_for, runs_as, answers_ran, ran_picked, serves_on}
+use Rattle.bd_driver.proofs.{Serves.{answers_ran, follows_for, ran_picked, runs_as, serves_on}, Words.{Back, Done, History, IsPicked, MatchResult, RanPicked, Request, Serving, reason_of, subst, sym, ◌≡◌}}
 use Rattle.bd_driver.proofs.driver.Driver.run_picked.Goals as goal
 
 pub publish_for-engine-requires-clause-engine : goal.publish_for-engine-requires-clause-engine

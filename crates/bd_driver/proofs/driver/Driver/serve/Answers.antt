@@ -1,12 +1,4 @@
-use Rattle.std.proofs.Common.{arith, ℕ, ◌-◌, ◌≡◌, ap, subst}
-use Rattle.bd_driver.specs.declared.view.View.{View}
-use Rattle.bd_driver.specs.declared.outcome.Served.TheVariants.{Ran}
-use Rattle.bd_driver.specs.States.{DriverState, SeatState}
-use Rattle.bd_driver.specs.Views.{view_of}
-use Rattle.atomic_table.specs.Table.{rest}
-use Rattle.bd_driver.specs.Serve.{ServedAll}
-use Rattle.bd_driver.specs.Served.{Serves}
-use Rattle.bd_driver.proofs.Serves.{all_serves}
+use Rattle.bd_driver.proofs.{Serves.{all_serves}, Words.{DriverState, Ran, SeatState, ServedAll, Serves, View, ap, arith, rest, subst, view_of, ℕ, ◌-◌, ◌≡◌}}
 use Rattle.bd_driver.proofs.driver.Driver.serve.Goals as goal
 
 pub returns-clause-serves : goal.returns-clause-serves

@@ -1,5 +1,4 @@
-use Rattle.std.proofs.Common.{rules, refl, ◌∙◌, arith}
-use Rattle.bd_driver.proofs.Serves.{served_none, served_more}
+use Rattle.bd_driver.proofs.{Serves.{served_more, served_none}, Words.{arith, refl, rules, ◌∙◌}}
 use Rattle.bd_driver.proofs.driver.Driver.serve_all.Goals as goal
 
 pub loop-number-init : goal.loop-number-init

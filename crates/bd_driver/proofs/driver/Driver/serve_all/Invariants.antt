@@ -1,7 +1,4 @@
-use Rattle.std.proofs.Common.{◌≡◌, ◌≤◌}
-use Rattle.bd_driver.specs.Views.{view_of}
-use Rattle.atomic_table.specs.Table.{rest}
-use Rattle.bd_driver.specs.Serve.{Serving, ServedAll}
+use Rattle.bd_driver.proofs.Words.{ServedAll, Serving, rest, view_of, ◌≡◌, ◌≤◌}
 use Rattle.bd_driver.proofs.driver.Driver.serve_all.Given as goal
 
 abbrev pub invariant-loop-number : goal.invariant-loop-number

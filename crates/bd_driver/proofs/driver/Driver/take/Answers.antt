@@ -1,11 +1,5 @@
-use Rattle.std.proofs.Common.{rules, ◌≡◌, ℕ, ◌%◌, List, ◌∷◌, sym, ap, ◌∙◌, arith}
-use Rattle.atomic_table.specs.Table.{rest}
-use Rattle.bd_driver.specs.declared.slot.Slot.{Slot}
-use Rattle.bd_driver.specs.declared.slot.Slot.TheVariants.{Home}
-use Rattle.bd_driver.specs.Views.{view_of}
-use Rattle.bd_space.specs.Histories.{history_of}
+use Rattle.bd_driver.proofs.{Takes.{takes_once}, Words.{Home, List, Slot, ap, arith, history_of, rest, rules, sym, view_of, ℕ, ◌%◌, ◌∙◌, ◌∷◌, ◌≡◌}}
 use Rattle.bd_driver.proofs.driver.Driver.take.Goals as goal
-use Rattle.bd_driver.proofs.Takes.{takes_once}
 
 pub fetch_or-word-requires : goal.fetch_or-word-requires
 fetch_or-word-requires c = (search rules, search rules, takes_once _ _ _ _ c.requires.one c.requires.idle)

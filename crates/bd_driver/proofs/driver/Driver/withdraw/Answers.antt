@@ -1,9 +1,4 @@
-use Rattle.std.proofs.Common.{rules, ◌+◌, ap, ◌∙◌}
-use Rattle.bd_driver.specs.declared.slot.Slot.TheVariants.{Posted}
-use Rattle.bd_driver.specs.States.{SeatState}
-use Rattle.bd_driver.specs.Rest.{is_waiting}
-use Rattle.bd_driver.specs.Steps.{Hands}
-use Rattle.bd_driver.proofs.OwnMailbox.{withdraws_at, first_held}
+use Rattle.bd_driver.proofs.{OwnMailbox.{first_held, withdraws_at}, Words.{Hands, Posted, SeatState, ap, is_waiting, rules, ◌+◌, ◌∙◌}}
 use Rattle.bd_driver.proofs.driver.Driver.withdraw.Goals as goal
 
 pub exchange-requires : goal.exchange-requires

@@ -1,12 +1,4 @@
-use Rattle.std.proofs.Common.{ℕ, List, ◌≡◌, ap, subst}
-use Rattle.bd_driver.specs.declared.view.View.{View}
-use Rattle.bd_driver.specs.Views.{view_of}
-use Rattle.atomic_table.specs.Table.{rest}
-use Rattle.bd_driver.specs.declared.slot.Slot.{Slot}
-use Rattle.bd_driver.specs.Driver.{Gives, Calls}
-use Rattle.bd_driver.specs.Reasons.{outcome_of}
-use Rattle.bd_driver.proofs.WholeCalls.{run_follows, call_ends}
-use Rattle.bd_space.specs.declared.step.Request.TheVariants.{Write}
+use Rattle.bd_driver.proofs.{WholeCalls.{call_ends, run_follows}, Words.{Calls, Gives, List, Slot, View, Write, ap, outcome_of, rest, subst, view_of, ℕ, ◌≡◌}}
 use Rattle.bd_driver.proofs.driver.Driver.write.Goals as goal
 
 pub returns-in-Some-clause-calls : goal.returns-in-Some-clause-calls
