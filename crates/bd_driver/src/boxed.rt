@@ -1,16 +1,15 @@
 //! What lies in the slots, behind pointers, so that what is moved through a slot has a few bytes. Contracts see what is in
 //! the boxes.
-ghost use Rattle.std.specs.Prelude.{◌≡◌, ◌<◌, [], IfOk, IfErr, OnErr, MatchResult};
+ghost use Rattle.std.specs.{Prelude.{◌≡◌, [], IfOk, MatchResult}, Borrow.{Lends, sem}};
 ghost use Rattle.bd_uapi.specs.Limits.{IsSeats};
-ghost use Rattle.bd_space.specs.{Histories.{HasPlace}, Runs.{HasRun, HasEntry, IsAtLimit}};
-ghost use Rattle.bd_space.specs.declared.step.Request.TheVariants.{Write};
-ghost use Rattle.bd_engine.specs.Refusals.{FullOnly, MemoryOnly};
+ghost use Rattle.bd_engine.specs.contracts.engine.Engine.{the_row as engine_row};
+ghost use Rattle.bd_driver.specs.contracts.boxed.BoxedEngine.{the_row as boxed_row};
 ghost use Rattle.bd_driver.specs.{Reasons.{reason_of}, declared.outcome.Outcome.TheVariants.{Done, Back}};
 
 use crate::outcome::Outcome;
 use crate::refusals::outcome_of;
-use bd_engine::{Engine, Ran, Span, StepError};
-use bd_space::{Answer, Request};
+use bd_engine::{Engine, Ran, StepError};
+use bd_space::Request;
 use std::alloc::{AllocError, Global};
 use std::marker::Model;
 use std::mem;
@@ -47,54 +46,13 @@ impl BoxedEngine {
         &self.engine
     }
 
-    /// The engine's run of a request.
+    /// The engine, to make runs with.
     #[inline(always)]
-    pub(crate) fn run(&mut self, seat: u32, request: &Request) -> Result<Ran, StepError>
-        requires { seat < self.old.seats }
-        ensures ok { IfOk result (λ r. HasRun self.old self.new seat request.now r.answer r.from r.to) }
-        ensures err { OnErr result (self.new ≡ self.old) }
-        ensures full { IfErr result (λ why. FullOnly why (IsAtLimit self.old seat request.now)) }
-        ensures memory { IfErr result (λ why. MemoryOnly why (HasPlace self.old)) }
-        ensures some { IfErr result (λ _. HasEntry self.old seat request.now) }
+    pub(crate) fn get_mut(&mut self) -> &mut Engine
+        ensures* lends { sem 𝓛 (Lends boxed_row engine_row self.entry result (λ w. w)) }
+        ensures value { result.now ≡ self.old }
     {
-        self.engine.run(seat, request)
-    }
-
-    /// The engine's run of a request, whose answer it writes.
-    #[inline(always)]
-    pub(crate) fn run_in(
-        &mut self,
-        seat: u32,
-        request: &Request,
-        told: &mut Answer,
-    ) -> Result<Span, StepError>
-        requires { seat < self.old.seats }
-        ensures ok { IfOk result (λ span. HasRun self.old self.new seat request.now told.new span.from span.to) }
-        ensures err { OnErr result (self.new ≡ self.old) }
-        ensures full { IfErr result (λ why. FullOnly why (IsAtLimit self.old seat request.now)) }
-        ensures memory { IfErr result (λ why. MemoryOnly why (HasPlace self.old)) }
-        ensures some { IfErr result (λ _. HasEntry self.old seat request.now) }
-    {
-        self.engine.run_in(seat, request, told)
-    }
-
-    /// The engine's run of a write whose bytes are lent.
-    #[inline(always)]
-    pub(crate) fn write(
-        &mut self,
-        seat: u32,
-        stream: &[u8],
-        area: &[u8],
-        told: &mut Answer,
-    ) -> Result<Span, StepError>
-        requires { seat < self.old.seats }
-        ensures ok { IfOk result (λ span. HasRun self.old self.new seat (Write stream.now area.now) told.new span.from span.to) }
-        ensures err { OnErr result (self.new ≡ self.old) }
-        ensures full { IfErr result (λ why. FullOnly why (IsAtLimit self.old seat (Write stream.now area.now))) }
-        ensures memory { IfErr result (λ why. MemoryOnly why (HasPlace self.old)) }
-        ensures some { IfErr result (λ _. HasEntry self.old seat (Write stream.now area.now)) }
-    {
-        self.engine.write(seat, stream, area, told)
+        &mut self.engine
     }
 
     pub(crate) fn open(self) -> Engine

@@ -57,7 +57,7 @@ impl Driver {
         let Some(mut engine) = self.take(&mut seat.table_seat) else {
             return Err(Why::Taken);
         };
-        let ran = engine.run_in(seat.number, request, told);
+        let ran = engine.get_mut().run_in(seat.number, request, told);
         self.give(&mut seat.table_seat, engine);
         reasoned(ran)
     }
@@ -80,7 +80,7 @@ impl Driver {
         match self.take(&mut seat.table_seat) {
             None => Err(Why::Taken),
             Some(mut engine) => {
-                let written = engine.write(seat.number, stream, area, told);
+                let written = engine.get_mut().write(seat.number, stream, area, told);
                 self.give(&mut seat.table_seat, engine);
                 reasoned(written)
             }

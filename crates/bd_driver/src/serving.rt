@@ -104,7 +104,7 @@ impl Driver {
         ensures serving { Serving table_seat.new.me result × (result.seats ≡ engine.seats) }
         ensures ran { RanPicked table_seat.old.me number request table_seat.new.me }
     {
-        let ran = engine.run(number, request.get());
+        let ran = engine.get_mut().run(number, request.get());
         let engine = self.publish_for(table_seat, engine, number);
         self.answer(table_seat, number, request.answered(ran));
         engine

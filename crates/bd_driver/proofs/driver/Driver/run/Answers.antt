@@ -7,16 +7,18 @@ returns-clause-calls c =
     let v = view_of seat.table_seat.me.0 in
     let took = c.in-Some.ensures.takes in
     let ran = c.run_in-ran in
+    let lent = c.get_mut.ensures.value in
     let request = c.args.request.now in
     let gave = subst (λ (l : List (ℕ × Slot)). Gives (view_of c.take.new.table_seat.me.0) l ran.new.self.entries c.give.new.table_seat.me) (ap rest took.engine.2) c.give.ensures.gives in
     let old : v ≡ c.args.seat.now.view = ap (λ s. s.view) c.seat.view_is in
     subst (λ (x : View). Calls x (view_of c.give.new.table_seat.me.0) request (outcome_of request ran.new.told c.reasoned.result)) old
     (call_ends v seat.number c.seat.invariant.number_is c.take.new.table_seat.me c.give.new.table_seat.me c.in-Some.engine ran.new.self request _ took gave
-    ran.new.told ran.result c.reasoned.result c.reasoned.ensures ran.ensures.ok ran.ensures.err ran.ensures.full ran.ensures.memory ran.ensures.some)
+    ran.new.told ran.result c.reasoned.result c.reasoned.ensures (rw lent at ran.ensures.ok) (rw lent at ran.ensures.err) (rw lent at ran.ensures.full) (rw lent at ran.ensures.memory) ran.ensures.some)
 
 pub give-requires-clause-engine : goal.give-requires-clause-engine
 give-requires-clause-engine c =
     let seat = c.seat.inside in
     let ran = c.run_in-ran in
+    let lent = c.get_mut.ensures.value in
     run_follows (view_of seat.table_seat.me.0) seat.number c.seat.invariant.number_is _ c.take.new.table_seat.me c.in-Some.engine ran.new.self c.args.request.now
-    c.in-Some.ensures.takes ran.new.told ran.result ran.ensures.ok ran.ensures.err
+    c.in-Some.ensures.takes ran.new.told ran.result (rw lent at ran.ensures.ok) (rw lent at ran.ensures.err)
