@@ -9,3 +9,4 @@ pub mod Begun
 pub mod Unread
 pub mod Piles
 pub mod Printed
+pub mod Why

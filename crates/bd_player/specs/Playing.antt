@@ -4,7 +4,7 @@ use Rattle.atomic_table.specs.Seated.{TableId}
 use Rattle.bd_spelling.specs.declared.record.Record.{Record}
 use Rattle.bd_script.specs.Scripts.{Read, script_of}
 use Rattle.bd_player.specs.declared.faults.ProgramFault.{ProgramFault}
-use Rattle.bd_player.specs.declared.faults.ProgramFault.TheVariants.{Line as Bad-Line}
+use Rattle.bd_player.specs.declared.faults.ProgramFault.TheVariants.{Line as Bad-Line, File, Memory}
 use Rattle.std.specs.List.{FoldsTo}
 use Rattle.bd_driver.specs.Rest.{is_waiting}
 use Rattle.bd_driver.specs.States.{SeatState}
@@ -87,3 +87,10 @@ pub record IsPlayed {S : Type 0} (known : Option (List ℕ)) (turns : ℕ) (take
 abbrev pub SaysBadLine : Option (List ℕ) → ProgramFault → Type 0
 SaysBadLine known (Bad-Line number reason) = IfSome known (λ bytes. script_of bytes ≡ Err number)
 SaysBadLine known fault = ⊤
+
+-- the faults of reading a script: its reader failed, memory was refused, or one of its lines is bad
+abbrev pub IsScriptFault : ProgramFault → Type 0
+IsScriptFault (Bad-Line number reason) = ⊤
+IsScriptFault File = ⊤
+IsScriptFault Memory = ⊤
+IsScriptFault _ = ⊥

@@ -1,5 +1,5 @@
 -- What is said of a journal, and when that is so.
-use Rattle.std.specs.Prelude.{◌≡◌, ℕ, List, length, Option, IfSome}
+use Rattle.std.specs.Prelude.{◌≡◌, ⊤, ℕ, List, length, Option, IfSome}
 use Rattle.bd_engine.specs.Refusals.{IsLiveSeats}
 use Rattle.bd_spelling.specs.declared.record.Record.{Record}
 use Rattle.bd_space.specs.Histories.{IsHistory, IsLawful}
@@ -10,7 +10,7 @@ use Rattle.bd_spelling.specs.declared.fault.ReadError.TheVariants.{Malformed}
 use Rattle.bd_spelling.specs.declared.fault.ReadError.TheVariants as read
 use Rattle.bd_audit.specs.Replays.{IsLawfulUpTo, StopsAt}
 use Rattle.bd_player.specs.declared.faults.ProgramFault.{ProgramFault}
-use Rattle.bd_player.specs.declared.faults.ProgramFault.TheVariants.{Journal, Memory}
+use Rattle.bd_player.specs.declared.faults.ProgramFault.TheVariants.{File, Journal, Memory}
 use Rattle.bd_player.specs.declared.verdicts.Verdict.{Verdict}
 use Rattle.bd_player.specs.declared.verdicts.Verdict.TheVariants.{Lawful, Unlawful}
 use Rattle.bd_player.specs.declared.verdicts.Judged.{Judged}
@@ -46,6 +46,13 @@ abbrev pub IsUnjudged : List ℕ → ProgramFault → Type 0
 IsUnjudged bytes Journal = (r : Record) → Tells bytes r → ⊥
 IsUnjudged bytes Memory = HasHeading bytes
 IsUnjudged bytes _ = ⊥
+
+-- the faults of reading a journal: its reader failed, memory was refused, or its bytes are none
+abbrev pub IsReadFault : ProgramFault → Type 0
+IsReadFault File = ⊤
+IsReadFault Journal = ⊤
+IsReadFault Memory = ⊤
+IsReadFault _ = ⊥
 
 -- no record is spelled by the bytes, where they are known
 abbrev pub IsNoJournal : Option (List ℕ) → Type 0

@@ -2,7 +2,7 @@
 
 ghost use Rattle.std.specs.Prelude.{IfOk, IfErr, IfSome};
 ghost use Rattle.bd_engine.specs.Refusals.{IsLiveSeats};
-ghost use Rattle.bd_player.specs.Cuts.{IsCutVerdict, IsLawfulCutAt0, IsWhole, SaysNoHeading};
+ghost use Rattle.bd_player.specs.{Cuts.{IsCutVerdict, IsLawfulCutAt0, IsWhole, SaysNoHeading}, Verdicts.{IsReadFault}};
 
 use crate::faults::{DONE, ProgramFault, after_writing, tell};
 use crate::journals::{journal_from, print_unlawful};
@@ -30,12 +30,14 @@ pub struct Whole {
 ///
 /// # Errors
 /// `Journal` where it doesn't begin with a heading, `Memory` where memory was refused, `File` where it can't be read.
-#[tactic(auto, using(crate::proofs::Kept::whole_known, crate::proofs::Unjudged::cut_unjudged, crate::proofs::Unjudged::says_cut))]
+#[tactic(auto, using(crate::proofs::Kept::whole_known, crate::proofs::Unjudged::cut_unjudged, crate::proofs::Unjudged::says_cut, crate::proofs::Why::told_fault))]
 pub fn whole_from<R: Read>(alloc: Global, journal: &mut R) -> Result<Whole, ProgramFault>
     ensures whole { IfOk result (λ w. IfSome (R.remaining journal.old) (λ bytes. IsWhole bytes w)) }
     ensures seats { IfOk result (λ w. IsLiveSeats w.record.seats) }
     // What is called no journal begins with no heading.
     ensures journal { IfErr result (SaysNoHeading (R.remaining journal.old)) }
+    // Else the reader failed, or memory was refused.
+    ensures why { IfErr result IsReadFault }
 {
     let bytes = match journal_from(alloc, journal) {
         Ok(bytes) => bytes,
@@ -67,7 +69,7 @@ pub fn print_whole<W: Write, E: Write>(
 }
 
 // What is said of what is whole of the journal that the reader has, and how many bytes are left.
-#[tactic(auto, using(crate::proofs::Kept::cut_known, crate::proofs::Unjudged::all_say_cut))]
+#[tactic(auto, using(crate::proofs::Kept::cut_known, crate::proofs::Unjudged::all_say_cut, crate::proofs::Why::all_cut))]
 fn cut_verdict_from<R: Read, P: Watch>(
     alloc: Global,
     journal: &mut R,
@@ -75,6 +77,7 @@ fn cut_verdict_from<R: Read, P: Watch>(
 ) -> Result<(Verdict, usize), ProgramFault>
     ensures verdict { IfOk result (λ x. IfSome (R.remaining journal.old) (λ bytes. IsCutVerdict bytes x.0 x.1)) }
     ensures journal { IfErr result (SaysNoHeading (R.remaining journal.old)) }
+    ensures why { IfErr result IsReadFault }
 {
     match journal_from(alloc, journal) {
         Ok(bytes) => cut_verdict(alloc, &bytes, watch),

@@ -1,7 +1,7 @@
 //! Writing and judging journals.
 
 ghost use Rattle.std.specs.Prelude.{◌≡◌, ◌≤◌, IfOk, IfErr, IfSome};
-ghost use Rattle.bd_player.specs.{Cuts.{SaysNoHeading}, Journals.{Wrote}, Verdicts.{IsAsSaid, IsKnownVerdict, IsLawfulAt0, JudgesKnown, SaysNoJournal}};
+ghost use Rattle.bd_player.specs.{Cuts.{SaysNoHeading}, Journals.{Wrote}, Verdicts.{IsAsSaid, IsKnownVerdict, IsLawfulAt0, IsReadFault, JudgesKnown, SaysNoJournal}};
 
 use crate::faults::{DONE, FAULT, ProgramFault, after_writing, tell};
 use crate::fronts::read_front;
@@ -46,11 +46,13 @@ pub fn print_unlawful<W: Write>(at: u64, out: &mut W) -> u8
 }
 
 // What the reader has, if it begins as each journal does. Of what doesn't, no more than these first bytes is read.
-#[tactic(auto, using(crate::proofs::Unread::no_heading, crate::proofs::Unread::front_on))]
+#[tactic(auto, using(crate::proofs::Unread::no_heading, crate::proofs::Unread::front_on, crate::proofs::Why::read_fault, crate::proofs::Why::all_read))]
 pub fn journal_from<R: Read>(alloc: Global, journal: &mut R) -> Result<Vec<u8>, ProgramFault>
     ensures bytes { IfOk result (λ v. IfSome (R.remaining journal.old) (λ bytes. v.items ≡ bytes)) }
     // What is called no journal has no heading.
     ensures journal { IfErr result (SaysNoHeading (R.remaining journal.old)) }
+    // Else the reader failed, or memory was refused.
+    ensures why { IfErr result IsReadFault }
 {
     let mut first = [0; 8];
     let have = match read_front(journal, &mut first) {
@@ -72,12 +74,14 @@ pub fn judged_from<R: Read>(alloc: Global, journal: &mut R) -> Result<Judged, Pr
     ensures spelled { IfOk result (JudgesKnown (R.remaining journal.old)) }
     // What is called no journal is none.
     ensures journal { IfErr result (SaysNoJournal (R.remaining journal.old)) }
+    // Else the reader failed, or memory was refused.
+    ensures why { IfErr result IsReadFault }
 {
     judged_watched(alloc, journal, &mut Unwatched)
 }
 
 /// As `judged_from`, and tells how far it is.
-#[tactic(auto, using(crate::proofs::Kept::judges_known, crate::proofs::Unjudged::all_say, crate::proofs::Unjudged::no_journal))]
+#[tactic(auto, using(crate::proofs::Kept::judges_known, crate::proofs::Unjudged::all_say, crate::proofs::Unjudged::no_journal, crate::proofs::Why::all_unjudged))]
 pub fn judged_watched<R: Read, P: Watch>(
     alloc: Global,
     journal: &mut R,
@@ -86,6 +90,7 @@ pub fn judged_watched<R: Read, P: Watch>(
     ensures said { IfOk result IsAsSaid }
     ensures spelled { IfOk result (JudgesKnown (R.remaining journal.old)) }
     ensures journal { IfErr result (SaysNoJournal (R.remaining journal.old)) }
+    ensures why { IfErr result IsReadFault }
 {
     match journal_from(alloc, journal) {
         Ok(bytes) => judgment_on(alloc, &bytes, watch),
@@ -107,7 +112,7 @@ pub fn check_journal<R: Read, W: Write, E: Write>(
 }
 
 // What is said of the journal that the reader has.
-#[tactic(auto, using(crate::proofs::Kept::verdict_known, crate::proofs::Unjudged::all_say, crate::proofs::Unjudged::no_journal))]
+#[tactic(auto, using(crate::proofs::Kept::verdict_known, crate::proofs::Unjudged::all_say, crate::proofs::Unjudged::no_journal, crate::proofs::Why::all_unjudged))]
 fn verdict_from<R: Read, P: Watch>(
     alloc: Global,
     journal: &mut R,
@@ -115,6 +120,7 @@ fn verdict_from<R: Read, P: Watch>(
 ) -> Result<Verdict, ProgramFault>
     ensures verdict { IfOk result (IsKnownVerdict (R.remaining journal.old)) }
     ensures journal { IfErr result (SaysNoJournal (R.remaining journal.old)) }
+    ensures why { IfErr result IsReadFault }
 {
     match journal_from(alloc, journal) {
         Ok(bytes) => verdict_watched(alloc, &bytes, watch),

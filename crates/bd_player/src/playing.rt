@@ -6,7 +6,7 @@ ghost use Rattle.bd_space.specs.Histories.{IsHistory};
 ghost use Rattle.bd_spelling.specs.Records.{history_in};
 ghost use Rattle.bd_driver.specs.Together.{new_seats};
 ghost use Rattle.bd_script.specs.Scripts.{read, script_of};
-ghost use Rattle.bd_player.specs.{Playing.{IsPlayed, Plays, RunsOn, SaysBadLine}, Printing.{IsPrinted}, Workers.{fault_status}};
+ghost use Rattle.bd_player.specs.{Playing.{IsPlayed, IsScriptFault, Plays, RunsOn, SaysBadLine}, Printing.{IsPrinted}, Workers.{fault_status}};
 ghost use Rattle.bd_player.specs.declared.faults.ProgramFault.{ProgramFault};
 ghost use Rattle.bd_player.specs.declared.faults.ProgramFault.TheVariants.{File, Journal, Memory};
 
@@ -76,12 +76,15 @@ pub fn read_on<R: Read>(
 }
 
 /// The script that a reader has.
+#[tactic(auto, using(crate::proofs::Why::script_fault))]
 pub fn script_from<R: Read>(alloc: Global, reader: &mut R) -> Result<Script, ProgramFault>
     ensures seats { IfOk result (λ s. IsSeats s.seats) }
     // It says what the bytes say.
     ensures says { IfOk result (λ s. IfSome (R.remaining reader.old) (λ bytes. script_of bytes ≡ Ok (read s))) }
     // A line that is called bad is the first that is.
     ensures line { IfErr result (SaysBadLine (R.remaining reader.old)) }
+    // Else the reader failed, or memory was refused.
+    ensures why { IfErr result IsScriptFault }
 {
     let bytes = read_on(alloc, &[], reader)?;
     match read_script(alloc, &bytes) {
@@ -98,6 +101,8 @@ pub fn laid<R: Read>(
 ) -> Result<(Driver, Vec<Seat>, Script), ProgramFault>
     ensures says { IfOk result (λ r. IfSome (R.remaining script.old) (λ bytes. script_of bytes ≡ Ok (read r.2))) }
     ensures table { IfOk result (λ r. All (λ s. s.table ≡ r.0.table) r.1.items) }
+    ensures line { IfErr result (SaysBadLine (R.remaining script.old)) }
+    ensures why { IfErr result IsScriptFault }
     ensures dealt { IfOk result (λ r. (r.0.seats ≡ r.2.seats) × (r.1.items ≡ new_seats r.0.table r.0.seats 0 r.0.seats)) }
 {
     let script = script_from(alloc, script)?;
@@ -169,6 +174,9 @@ pub fn play_into<R: Read, S: Sink>(
     // The script's lines are played from new seats, and the history is what those did.
     ensures plays { S.is_full sink.old ≡ false
         → IfOk result (IsPlayed (R.remaining script.old) turns S.takes S.is_full sink.old sink.new) }
+    // A line that is called bad is the first that is; else the reader failed, or memory was refused.
+    ensures line { IfErr result (SaysBadLine (R.remaining script.old)) }
+    ensures why { IfErr result IsScriptFault }
     // What is handed on as the history of the run is one.
     ensures history { S.is_full sink.old ≡ false → IfOk result (λ r. IsHistory (history_in r)) }
 {

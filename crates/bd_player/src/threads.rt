@@ -1,10 +1,10 @@
 //! Playing a script with a thread for each seat.
 
-ghost use Rattle.std.specs.Prelude.{◌≡◌, ◌≤◌, ◌⊎◌, ◌++◌, [], ◌∷◌, true, map, All, IfOk, IfSome, None, OnOk};
+ghost use Rattle.std.specs.Prelude.{◌≡◌, ◌≤◌, ◌<◌, ◌+◌, ◌⊎◌, ◌++◌, [], ◌∷◌, true, map, All, IfOk, IfSome, None, OnOk, vec_len, vec_capacity};
 ghost use Rattle.atomic_table.specs.Seated.{TableId};
 ghost use Rattle.bd_space.specs.Histories.{IsHistory};
 ghost use Rattle.bd_spelling.specs.Records.{history_in};
-ghost use Rattle.bd_player.specs.Piles.{ArePiles, IsPut};
+ghost use Rattle.bd_player.specs.{Piles.{ArePiles, IsPut}, Printing.{PrintsAll}};
 ghost use Rattle.bd_player.specs.{Workers.{fault_status}, declared.faults.ProgramFault.{ProgramFault}};
 
 use crate::faults::{DONE, ProgramFault, tell};
@@ -120,7 +120,8 @@ fn parts_of(
     mut seats: Vec<Seat>,
     mut piles: Vec<Vec<Line>>,
 ) -> Result<Vec<Part>, AllocError>
-    ensures { (t : TableId) → All (λ s. s.table ≡ t) seats.items → IfOk result (λ v. All (λ p. p.seat.table ≡ t) v.items) }
+    ensures table { (t : TableId) → All (λ s. s.table ≡ t) seats.items → IfOk result (λ v. All (λ p. p.seat.table ≡ t) v.items) }
+    ensures each { IfOk result (λ v. vec_len v ≡ vec_len seats) }
 {
     let mut parts = Vec::new(alloc);
     while let Some(seat) = seats.pop() {
@@ -135,6 +136,8 @@ fn parts_of(
 
 /// Prints what a seat said, and answers the status so far.
 pub fn print_told<W: Write, E: Write>(told: &Told, out: &mut W, err: &mut E, status: u8) -> u8
+    // Each thing is printed, and the status is what that came to.
+    ensures says { PrintsAll status told.now.said.items told.now.starved result }
     ensures kept { status ≤ result }
     ensures starved { told.now.starved ≡ true → 3 ≤ result }
 {
@@ -187,7 +190,8 @@ fn start_all<'s, E, D: Desk + Sync>(
     turns: u32,
 ) -> Result<Vec<Option<Worker>>, AllocError>
     requires { All (λ p. p.seat.table ≡ D.table desk.now) parts.items }
-    ensures { IfOk result (λ v. All (λ o. IfSome o (λ w. w.promise.0.value.table ≡ D.table desk.now)) v.items) }
+    ensures table { IfOk result (λ v. All (λ o. IfSome o (λ w. w.promise.0.value.table ≡ D.table desk.now)) v.items) }
+    ensures each { IfOk result (λ v. vec_len v ≡ vec_len parts) }
 {
     let mut workers = Vec::with_capacity(alloc, parts.len())?;
     for part in parts {
@@ -205,21 +209,25 @@ fn run_parts<H: Threads + Wait + Sync, D: Desk + Sync>(
     turns: u32,
 ) -> Result<Vec<Option<Worker>>, AllocError>
     requires { All (λ p. p.seat.table ≡ D.table desk.now) parts.items }
-    ensures { IfOk result (λ v. All (λ o. IfSome o (λ w. w.promise.0.value.table ≡ D.table desk.now)) v.items) }
+    ensures table { IfOk result (λ v. All (λ o. IfSome o (λ w. w.promise.0.value.table ≡ D.table desk.now)) v.items) }
+    ensures each { IfOk result (λ v. vec_len v ≡ vec_len parts) }
 {
     thread::scope(
         thread::scope_env(),
         rt,
         |scope| -> Result<Vec<Option<Worker>>, AllocError>
             requires { All (λ p. p.seat.table ≡ D.table desk.now) parts.items }
-            ensures { IfOk result (λ v. All (λ o. IfSome o (λ w. w.promise.0.value.table ≡ D.table desk.entry.now)) v.items) }
+            ensures table { IfOk result (λ v. All (λ o. IfSome o (λ w. w.promise.0.value.table ≡ D.table desk.entry.now)) v.items) }
+            ensures each { IfOk result (λ v. vec_len v ≡ vec_len parts.entry) }
         { start_all(scope, alloc, desk, parts, turns) },
     )
 }
 
 // Adds a seat, where there is room for it.
 fn add_seat(seats: &mut Vec<Seat>, seat: Seat)
-    ensures { (t : TableId) → All (λ s. s.table ≡ t) seats.old.items → seat.table ≡ t → All (λ s. s.table ≡ t) seats.new.items }
+    ensures table { (t : TableId) → All (λ s. s.table ≡ t) seats.old.items → seat.table ≡ t → All (λ s. s.table ≡ t) seats.new.items }
+    ensures each { vec_len seats.old < vec_capacity seats.old → vec_len seats.new ≡ vec_len seats.old + 1 }
+    ensures room { vec_capacity seats.old ≤ vec_capacity seats.new }
 {
     match seats.push(seat) {
         Ok(()) => (),
@@ -235,7 +243,9 @@ pub fn gather<H: Threads, W: Write, E: Write>(
     out: &mut W,
     err: &mut E,
 ) -> u8
-    ensures { (t : TableId) → All (λ o. IfSome o (λ w. w.promise.0.value.table ≡ t)) workers.items → All (λ s. s.table ≡ t) seats.old.items → All (λ s. s.table ≡ t) seats.new.items }
+    // Where there is room for them, each seat comes back, or the status is a fault's.
+    ensures each { vec_len seats.old + vec_len workers ≤ vec_capacity seats.old → (vec_len seats.new ≡ vec_len seats.old + vec_len workers) ⊎ (1 ≤ result) }
+    ensures table { (t : TableId) → All (λ o. IfSome o (λ w. w.promise.0.value.table ≡ t)) workers.items → All (λ s. s.table ≡ t) seats.old.items → All (λ s. s.table ≡ t) seats.new.items }
 {
     let mut status = DONE;
     while let Some(worker) = workers.pop() {
@@ -264,7 +274,9 @@ pub fn play_at<H: Threads + Wait + Sync, D: Desk + Sync, W: Write, E: Write>(
     err: &mut E,
 ) -> Result<(Vec<Seat>, u8), AllocError>
     requires { All (λ s. s.table ≡ D.table desk.now) seats.items }
-    ensures { IfOk result (λ r. All (λ s. s.table ≡ D.table desk.now) r.0.items) }
+    ensures table { IfOk result (λ r. All (λ s. s.table ≡ D.table desk.now) r.0.items) }
+    // Each seat comes back, or the status is a fault's.
+    ensures each { IfOk result (λ r. (vec_len r.0 ≡ vec_len seats) ⊎ (1 ≤ r.1)) }
 {
     let mut home = Vec::with_capacity(alloc, seats.len())?;
     let piles = piles_of(alloc, script)?;

@@ -8,6 +8,9 @@ loop-part-preserved g c =
     let t = g.D.Desk.table c.args.desk.now in
     let step = c.in-Some.ensures.steps.0 in
     let rest = into_iter_items c.next.new.self in (
-      All-rest (λ p. p.seat.table ≡ t) c.in-Some.part rest (into_iter_items c.loop-part.part-iterator) step c.loop-part.invariant.0,
-      rw c.in_ok-push.ensures.items (All-push (λ o. IfSome o (λ w. w.promise.0.value.table ≡ t)) c.loop-part.workers.items c.start.result c.loop-part.invariant.1 c.start.ensures),
+      (
+        All-rest (λ p. p.seat.table ≡ t) c.in-Some.part rest (into_iter_items c.loop-part.part-iterator) step c.loop-part.invariant.0.0,
+        rw c.in_ok-push.ensures.items (All-push (λ o. IfSome o (λ w. w.promise.0.value.table ≡ t)) c.loop-part.workers.items c.start.result c.loop-part.invariant.0.1 c.start.ensures),
+      ),
+      grind (arith, c.loop-part.invariant.1, c.in-Some.ensures.steps.1, c.in_ok-push.ensures.len),
     )
