@@ -1,5 +1,5 @@
 -- Which buffers end by a step: where they are to be looked for.
-use Rattle.bd_step.proofs.Words.{Actor, AtHome, Bool, Buffer, Command, Err, HasEndings, In, List, None, NotHandedOut, OfThread, Ok, OnErr, OnOk, Option, Outcome, Pairs, Parcel, Result, Some, Space, Step, Thread, Work, [], accepted, actor, actor_acts, any_found, ap, arith, both, buffer_at_pointer, buffer_in, buffers_of, by_actor, change, command_step, cond, eq-eqb, eqb-true, exit_process_step}
+use Rattle.bd_step.proofs.Words.{Actor, AtHome, Bool, Buffer, Command, HasEndings, In, List, None, NotHandedOut, OfThread, Option, Outcome, Pairs, Parcel, Some, Space, Step, Thread, Work, [], accepted, actor, actor_acts, any_found, ap, arith, both, buffer_at_pointer, buffer_in, buffers_of, by_actor, change, command_step, cond, eq-eqb, eqb-true, exit_process_step}
 use Rattle.bd_step.proofs.Words.{exit_thread_step, false, filter, filter_in, find_in, find_some, fold_keeps, follow, free_outcome, free_step, hands_out, in_filter, in_map, inl, inr, is_gone, is_lost_with, is_made_at, is_none, is_on, is_some, is_some_and, made_of_buffer, map, not, not_false, noted, on_thread, one_thread, pointer, refl, seat_of, settle, some_eq, subst, sym, tell_deaths}
 use Rattle.bd_step.proofs.{Words.{tell_deaths_untouched, thread_goes, threads_go, to_false, true, without_buffer, without_process, ℕ, ◌&&◌, ◌<◌, ◌==◌, ◌∙◌, ◌∷◌, ◌≡◌}, Living.{AllLive, can_end, same_live, change_leaves_all, settled_buffers, followed_buffers, completed_buffers}}
 use Rattle.bd_space.specs.declared.step.Step.TheVariants as step_of
@@ -8,8 +8,7 @@ use Rattle.bd_uapi.specs.declared.command.Command.TheVariants as bc
 -- ---- what is gone
 
 not_none : {A : Type 0} (o : Option A) → is_some o ≡ true → is_none o ≡ false
-not_none None e = absurd (cc)
-not_none (Some x) e = refl
+not_none o e = search arith
 
 -- a buffer that is among them isn't gone
 still_there : (cs : List Buffer) (made : ℕ) (d : Buffer) → In d cs → d.made ≡ made → is_gone cs made ≡ false
@@ -19,12 +18,7 @@ module _ (gone : ℕ → Bool) (may : Buffer → Bool) where
   -- what is gone of those that may be is gone of all
   picked : (bs : List Buffer) → ((c : Buffer) → In c bs → may c ≡ false → gone c.made ≡ false) → filter gone (map made_of_buffer (filter may bs)) ≡ filter gone (map made_of_buffer bs)
   picked [] stay = refl
-  picked (b ∷ bs) stay = at (may b) refl (picked bs (λ c l. stay c (inr l)))
-    where
-      at : (t : Bool) → may b ≡ t → filter gone (map made_of_buffer (filter may bs)) ≡ filter gone (map made_of_buffer bs)
-          → filter gone (map made_of_buffer (cond t (b ∷ filter may bs) (filter may bs))) ≡ filter gone (map made_of_buffer (b ∷ bs))
-      at true e more = ap (λ (ms : List ℕ). cond (gone b.made) (b.made ∷ ms) ms) more
-      at false e more = more ∙ ap (λ (t : Bool). cond t (b.made ∷ filter gone (map made_of_buffer bs)) (filter gone (map made_of_buffer bs))) (sym (stay b (inl refl) e))
+  picked (b ∷ bs) stay = grind (arith, picked bs (λ c l. stay c (inr l)), stay b (inl refl))
 
 -- made later than the other
 abbrev pub Earlier : Buffer → Buffer → Type 0
@@ -36,11 +30,7 @@ none_made m (b ∷ bs) other =
     ap (λ (t : Bool). cond t (b ∷ filter (is_made_at m) bs) (filter (is_made_at m) bs)) (other b (inl refl)) ∙ none_made m bs (λ c l. other c (inr l))
 
 apart : (a b : ℕ) → (a ≡ b → ⊥) → (a == b) ≡ false
-apart a b k = at (a == b) refl
-  where
-    at : (t : Bool) → (a == b) ≡ t → t ≡ false
-    at true e = absurd (k (eqb-true a b e))
-    at false e = refl
+apart a b k = to_false _ (λ e. k (eqb-true a b e))
 
 -- just one was made there
 one_made : (b : Buffer) (bs : List Buffer) → Pairs Earlier bs → In b bs → map made_of_buffer (filter (is_made_at b.made) bs) ≡ b.made ∷ []

@@ -1,6 +1,6 @@
 -- What follows at some names, and that the objects may come after them.
-use Rattle.bd_step.proofs.Words.{Bool, DeathNotification, Identity, In, List, Name, NameTest, Object, ObjectTest, OfProcess, Space, Work, WorkKind, [], and-true, and_both, any_append, any_found, any_in, ap, at_name, both, cond, deaths_followed, deaths_go_of, eqb-true, false, filter, filter_in, fold, follow_of, fun_ext, get_or, in_filter, inl, inr, is_lost, is_name_of, is_named_in, is_touched, length}
-use Rattle.bd_step.proofs.Words.{list_any, names_among, names_followed, names_go_of, neither, no_name, not, notice_stays, notify_of, objects_go_of, or-false, or-true, or_left, or_right, refl, same, same_eq, stays_in, still_due, sym, take, take_more, true, with_notice, work_goes_of, ℕ, ◌&&◌, ◌+◌, ◌<◌, ◌==◌, ◌||◌, ◌∙◌, ◌∷◌, ◌≡◌}
+use Rattle.bd_step.proofs.Words.{arith, both_filters, Bool, DeathNotification, Identity, In, List, Name, NameTest, Object, ObjectTest, OfProcess, Space, Work, WorkKind, [], and-true, and_both, any_append, any_found, any_in, ap, at_name, both, deaths_followed, deaths_go_of, eqb-true, false, filter, filter_in, fold, follow_of, fun_ext, get_or, in_filter, inl, inr, is_lost, is_name_of, is_named_in, is_touched, length}
+use Rattle.bd_step.proofs.Words.{list_any, names_among, names_followed, names_go_of, neither, no_name, not, notice_stays, notify_of, objects_go_of, or-false, or_left, or_right, refl, same, same_eq, stays_in, still_due, sym, take, take_more, true, with_notice, work_goes_of, ℕ, ◌&&◌, ◌+◌, ◌<◌, ◌==◌, ◌||◌, ◌∙◌, ◌∷◌, ◌≡◌}
 use Rattle.bd_space.specs.declared.space.WorkKind.TheVariants as work
 
 -- ---- lists
@@ -16,20 +16,11 @@ module _ {A : Type 0} where
 
   -- one test after the other
   pub twice : (p q r : A → Bool) (xs : List A) → ((x : A) → p x ≡ (q x && r x)) → filter p xs ≡ filter r (filter q xs)
-  twice p q r [] h = refl
-  twice p q r (x ∷ xs) h = at (q x) refl (twice p q r xs h)
-    where
-      at : (b : Bool) → q x ≡ b → filter p xs ≡ filter r (filter q xs) → cond (p x) (x ∷ filter p xs) (filter p xs) ≡ filter r (cond b (x ∷ filter q xs) (filter q xs))
-      at true e k = rw (h x, e) (ap (λ ys. cond (r x) (x ∷ ys) ys) k)
-      at false e k = rw (h x, e) k
+  twice p q r xs h = sym (both_filters q r p (λ x. sym (h x)) xs)
 
 pub no_deaths : (n : ℕ) (ds : List DeathNotification) → list_any (λ (x : DeathNotification). (x.made == n) && false) ds ≡ false
 no_deaths n [] = refl
-no_deaths n (d ∷ ds) = at (d.made == n) (no_deaths n ds)
-  where
-    at : (b : Bool) → list_any (λ (x : DeathNotification). (x.made == n) && false) ds ≡ false → ((b && false) || list_any (λ (x : DeathNotification). (x.made == n) && false) ds) ≡ false
-    at true k = k
-    at false k = k
+no_deaths n (d ∷ ds) = grind (arith, no_deaths n ds)
 
 -- ---- items of which no name is looked at
 
@@ -48,11 +39,7 @@ unlooked_stays s _ = refl
 
 -- what stays for either stays for both
 pub either_or : (p q n : Bool) → (not (p || q) || n) ≡ ((not p || n) && (not q || n))
-either_or true true true = refl
-either_or true true false = refl
-either_or true false true = refl
-either_or true false false = refl
-either_or false q n = refl
+either_or p q n = search arith
 
 -- ---- first at the names
 
@@ -92,10 +79,7 @@ module _ (a : NameTest) (b : ObjectTest) (s : Space) where
 -- ---- where no notification is lost with the name, none goes
 
 stays_or_lost : (a c n : Bool) → (a && not c && not n) ≡ false → (not a || (c || n)) ≡ true
-stays_or_lost false c n h = refl
-stays_or_lost true true n h = refl
-stays_or_lost true false true h = refl
-stays_or_lost true false false h = absurd (cc)
+stays_or_lost a c n h = search arith
 
 module _ {A : Type 0} (p q : A → Bool) where
   keeps_others : ((x : A) → q x ≡ false → p x ≡ true) → (xs : List A) → list_any q xs ≡ false → filter p xs ≡ xs
@@ -104,11 +88,7 @@ module _ {A : Type 0} (p q : A → Bool) where
 
   fewer_found : (xs : List A) → (not (list_any (λ x. p x && q x) xs) || list_any p xs) ≡ true
   fewer_found [] = refl
-  fewer_found (x ∷ xs) = at (p x) (fewer_found xs)
-    where
-      at : (b : Bool) → (not (list_any (λ y. p y && q y) xs) || list_any p xs) ≡ true → (not ((b && q x) || list_any (λ y. p y && q y) xs) || (b || list_any p xs)) ≡ true
-      at true k = or-true _
-      at false k = k
+  fewer_found (x ∷ xs) = grind (arith, fewer_found xs)
 
 module _ (p : ℕ) (o : Identity) (s : Space) where
   abbrev stays : List DeathNotification → WorkKind → Bool
@@ -170,17 +150,7 @@ module _ (a b : NameTest) (s : Space) where
       (in_filter (λ (m : Name). not (b m.process m.object) || is_named_in s.objects s.references m.process m.object) m.0 first m.1).0 m.2
 
   death_stays : (p q c n m : Bool) → (m ≡ true → n ≡ true) → (q ≡ false → n ≡ true → m ≡ true) → (not (p || q) || (c || m)) ≡ ((not p || (c || n)) && (not q || (c || m)))
-  death_stays false q c n m h k = refl
-  death_stays true true true n m h k = refl
-  death_stays true true false true true h k = refl
-  death_stays true true false true false h k = refl
-  death_stays true true false false false h k = refl
-  death_stays true true false false true h k = absurd (let no = h refl in cc)
-  death_stays true false true n m h k = refl
-  death_stays true false false true true h k = refl
-  death_stays true false false true false h k = absurd (let no = k refl refl in cc)
-  death_stays true false false false true h k = absurd (let no = h refl in cc)
-  death_stays true false false false false h k = refl
+  death_stays p q c n m h k = grind (arith, h, k)
 
   abbrev made_at : ℕ → DeathNotification → Bool
   made_at n x = x.made == n
@@ -191,16 +161,7 @@ module _ (a b : NameTest) (s : Space) where
 
   item_stays : (ab a1 b1 d1 d2 : Bool) → (d2 ≡ true → d1 ≡ true) → (a1 ≡ true → ab ≡ true) → (b1 ≡ true → ab ≡ true) → (b1 ≡ false → d1 ≡ true → d2 ≡ true) → (ab ≡ true → a1 ≡ false → b1 ≡ true)
       → (not ab || d2) ≡ ((not a1 || d1) && (not b1 || d2))
-  item_stays false true b1 d1 d2 f1 f2 f3 f4 f5 = absurd (let no = f2 refl in cc)
-  item_stays false false true d1 d2 f1 f2 f3 f4 f5 = absurd (let no = f3 refl in cc)
-  item_stays false false false d1 d2 f1 f2 f3 f4 f5 = refl
-  item_stays true true b1 false true f1 f2 f3 f4 f5 = absurd (let no = f1 refl in cc)
-  item_stays true true b1 false false f1 f2 f3 f4 f5 = refl
-  item_stays true true true true d2 f1 f2 f3 f4 f5 = refl
-  item_stays true true false true true f1 f2 f3 f4 f5 = refl
-  item_stays true true false true false f1 f2 f3 f4 f5 = absurd (let no = f4 refl refl in cc)
-  item_stays true false true d1 d2 f1 f2 f3 f4 f5 = refl
-  item_stays true false false d1 d2 f1 f2 f3 f4 f5 = absurd (let no = f5 refl refl in cc)
+  item_stays ab a1 b1 d1 d2 f1 f2 f3 f4 f5 = grind (arith, f1, f2, f3, f4, f5)
 
   abbrev a_stays : DeathNotification → Bool
   a_stays x = not (a x.process x.object) || (x.cleared || is_name_of first x.process x.object)
@@ -209,8 +170,7 @@ module _ (a b : NameTest) (s : Space) where
   b_stays x = not (b x.process x.object) || (x.cleared || is_name_of both_gone x.process x.object)
 
   split_or : (p q : Bool) → (p || q) ≡ true → p ≡ false → q ≡ true
-  split_or true q h e = absurd (cc)
-  split_or false q h e = h
+  split_or p q h e = search arith
 
   kinds_then : (k : WorkKind) → (not (is_touched either (λ i. false) s.deaths k) || still_due s.processes s.objects s.references deaths_gone k)
       ≡ ((not (is_touched a (λ i. false) s.deaths k) || still_due s.processes s.objects s.references first_deaths k)

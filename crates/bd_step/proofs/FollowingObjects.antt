@@ -1,5 +1,5 @@
 -- What follows at some objects: first they go, or their Notices, and then the Notices that are missing are made.
-use Rattle.bd_step.proofs.Words.{Bool, DeathNotification, Earlier, Identity, In, IsNobodyDue, List, Name, None, NotLater, Object, ObjectTest, OfProcess, Option, Pairs, Some, Space, Work, WorkKind, [], any_append, any_found, any_in, ap, arith, at_object, cond, cons_option, deaths_go_of, eq_same, false, filter, filter_agree, filter_map, filter_same, find_kept, fold, fold_more, follow_of, followed_at}
+use Rattle.bd_step.proofs.Words.{to_false, Bool, DeathNotification, Earlier, Identity, In, IsNobodyDue, List, Name, None, NotLater, Object, ObjectTest, OfProcess, Option, Pairs, Some, Space, Work, WorkKind, [], any_append, any_found, any_in, ap, arith, at_object, cond, deaths_go_of, eq_same, false, filter, filter_agree, filter_map, filter_same, find_kept, fold, fold_more, follow_of, followed_at}
 use Rattle.bd_step.proofs.Words.{fun_ext, get_or, has_notice_in, in_filter, in_last, is_among, is_earlier, is_notice, is_some, is_some_and, is_told_by, is_touched, length, names_go_of, never_earlier, no_name, not, notice_of, notice_stays, notify_of, object_in, objects_go_of, option_and_then, or-false, or-true, owner_due, pairs_filter, refl, same, same_eq, shed_of, stays_in, still_due, subst, sym, take}
 use Rattle.bd_step.proofs.{Words.{take_more, told_at, told_of, true, wants_notice, when, with_notice, with_work, work_goes_of, ℕ, ◌&&◌, ◌+◌, ◌<◌, ◌||◌, ◌∙◌, ◌∷◌, ◌≡◌}, Following.{keeps_all, keeps_none, twice, either_or, due_as_notice, unlooked_stays}}
 use Rattle.bd_space.specs.declared.space.WorkKind.TheVariants as work
@@ -22,12 +22,7 @@ among_noticed ws = fun_ext (λ o. each o ws)
   where
     each : (o : Identity) (ws : List Work) → is_among (filter_map (λ w. notice_of w.kind) ws) o ≡ is_told_by ws o
     each o [] = refl
-    each o (w ∷ ws) = at (notice_of w.kind) (each o ws)
-      where
-        at : (n : Option Identity) → is_among (filter_map (λ w. notice_of w.kind) ws) o ≡ is_told_by ws o
-            → is_among (cons_option n (filter_map (λ w. notice_of w.kind) ws)) o ≡ (is_some_and n (same o) || is_told_by ws o)
-        at None e = e
-        at (Some p) e = ap (λ b. same o p || b) e
+    each o (w ∷ ws) = grind (arith, each o ws)
 
 -- ---- objects that go, and Notices that have nothing left to say
 
@@ -43,15 +38,10 @@ module _ (b c : ObjectTest) (s : Space) where
 
   -- where the later test leaves what the earlier one found
   either_found : (p q n m : Bool) → (p ≡ true → m ≡ n) → (not (p || q) || m) ≡ ((not p || n) && (not q || m))
-  either_found true true true m e = e refl ∙ sym (e refl)
-  either_found true true false m e = e refl
-  either_found true false true m e = e refl
-  either_found true false false m e = e refl
-  either_found false q n m e = refl
+  either_found p q n m e = grind (arith, e)
 
   stays_if : (p n : Bool) → (not p || n) ≡ true → p ≡ true → n ≡ true
-  stays_if true n h e = h
-  stays_if false n h e = absurd (cc)
+  stays_if p n h e = search arith
 
   -- those that stay for the first test aren't lost by the second
   pub found_still : (o : Identity) → b o ≡ true → object_in both_gone o ≡ object_in first o
@@ -155,11 +145,7 @@ module _ (s : Space) where
         ∙ ap (λ ys. fold tell (fold tell todo ys) (filter (λ (x : Object). q x.id) xs)) (sym (keeps_none (λ (x : Object). same x.id o) xs none))
 
     later_others : (x : Object) (xs : List Object) → ((y : Object) → In y xs → Earlier x y) → is_earlier x.id o ≡ false → (y : Object) → In y xs → same y.id o ≡ false
-    later_others x xs later none y l = at (same y.id o) refl
-      where
-        at : (b : Bool) → same y.id o ≡ b → b ≡ false
-        at true e = let lt = subst (λ i. is_earlier x.id i ≡ true) (same_eq y.id o e) (later y l) in absurd (cc)
-        at false e = refl
+    later_others x xs later none y l = to_false _ (λ e. (let lt = subst (λ i. is_earlier x.id i ≡ true) (same_eq y.id o e) (later y l) in cc))
 
     -- o's object stands before those of later ones
     told_split : (xs : List Object) → Pairs Earlier xs → (todo : List Work)
@@ -254,20 +240,10 @@ one_followed (o ∷ p ∷ os) d s e = absurd (omega (arith, e))
 
 pub owner_told : (f : Option Object) (w : Object → Bool) (p : ℕ) → option_and_then (λ x. when (w x) x.owner) f ≡ Some p
     → (x : Object) × (f ≡ Some x) × (w x ≡ true) × (x.owner ≡ p)
-owner_told None w p e = absurd (cc)
-owner_told (Some x) w p e = at (w x) refl e
-  where
-    at : (b : Bool) → w x ≡ b → when b x.owner ≡ Some p → (y : Object) × (Some x ≡ Some y) × (w y ≡ true) × (y.owner ≡ p)
-    at true i k = (x, refl, i, cc)
-    at false i k = absurd (cc)
+owner_told f w p e = search arith
 
 pub owner_wanted : (f : Option Object) (w : Object → Bool) (b : Bool) → is_some (option_and_then (λ x. when (w x) x.owner) f) ≡ b → is_some_and f w ≡ b
-owner_wanted None w b e = e
-owner_wanted (Some x) w b e = at (w x) e
-  where
-    at : (c : Bool) → is_some (when c x.owner) ≡ b → c ≡ b
-    at true k = k
-    at false k = k
+owner_wanted f w b e = search arith
 
 -- so its Notice is made if it is missing, or there is none to make
 pub told_owner : (s : Space) (todo : List Work) (o : Identity) (x : Object) (p : ℕ) → object_in s.objects o ≡ Some x → x.owner ≡ p
@@ -278,12 +254,7 @@ told_owner s todo o x p e owns =
 
 pub told_nobody : (s : Space) (todo : List Work) (o : Identity) → option_and_then (λ x. when (wants_notice s.processes s.references x) x.owner) (object_in s.objects o) ≡ None
     → todo ≡ told_at s todo o
-told_nobody s todo o e = at (object_in s.objects o) (owner_wanted (object_in s.objects o) (wants_notice s.processes s.references) false (ap is_some e))
-  where
-    at : (f : Option Object) → is_some_and f (wants_notice s.processes s.references) ≡ false
-        → todo ≡ elim f as (λ (f : Option Object). List Work) [ None ↦ todo | Some x ↦ with_notice s.steps s.processes s.references (OfProcess x.owner) todo x ]
-    at None k = refl
-    at (Some x) k = rw k refl
+told_nobody s todo o e = grind (arith, e)
 
 -- where nobody is to be told, nothing is made
 told_none : (os : List Identity) (s : Space) (todo : List Work) → IsNobodyDue s os → fold (told_at s) todo os ≡ todo

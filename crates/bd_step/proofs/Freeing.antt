@@ -1,6 +1,6 @@
 -- Freeing a buffer between two steps: only a one-way call on its target may ripen, no call is abandoned, and what it referred to is
 -- looked at alone.
-use Rattle.bd_step.proofs.Words.{Asked, Bool, Buffer, Carried, Earlier, Elsewhere, Err, Handshake, Holder, Identity, In, IsFreeing, IsTidy, List, Manager, NameTest, None, NotHandedOut, ObjectTest, Ok, Option, Pairs, Reference, Some, Space, Target, Turn, Waits, and_both, any_found, any_in, ap, arith, at_name, at_object, both, buffer_at_pointer, buffer_in, completed, elsewhere_said, eq-eqb, eq_same}
+use Rattle.bd_step.proofs.Words.{Bool, Buffer, Carried, Earlier, Elsewhere, Err, Holder, Identity, In, IsFreeing, IsTidy, List, NameTest, None, NotHandedOut, ObjectTest, Ok, Option, Pairs, Reference, Some, Space, Turn, Waits, and_both, any_found, any_in, ap, arith, at_name, at_object, both, buffer_at_pointer, buffer_in, completed, elsewhere_said, eq-eqb, eq_same}
 use Rattle.bd_step.proofs.Words.{eqb-true, false, filtered_said, find, find_in, find_some, follow, follow_local, follow_of, freed_buffer, freed_local, freed_two_way, gives_name_to, if◌then◌else◌, in_filter, inl, inr, is_among, is_made_at, is_of_buffer, map_in, names_among, names_of_references, objects_of_references, option_map, pairs_either, pointer, references_of_buffer, referred, refl, ripen_next}
 use Rattle.bd_step.proofs.{Words.{ripen_of, ripen_of_elsewhere, same, same_eq, sym, to_false, true, turn_of, turn_target, turn_target_at, without_buffer, ℕ, ◌&&◌, ◌==◌, ◌∙◌, ◌≡◌}, Afterwards.{ripened_ordered}}
 
@@ -48,22 +48,11 @@ module _ (s : Space) (made : ℕ) (tidy : IsTidy s) where
 -- where more is looked at, nothing is pending elsewhere either
 more_elsewhere : (a c : NameTest) (b e : ObjectTest) (z : Space) → ((p : ℕ) (o : Identity) → c p o ≡ false → a p o ≡ false) → ((o : Identity) → e o ≡ false → b o ≡ false)
     → Elsewhere a b z → Elsewhere c e z
-more_elsewhere a c b e z names objects h = record {
-  names = λ m l none. h.names m l (names m.process m.object none);
-  objects = λ x l none. h.objects x l (objects x.id none);
-  deaths = λ d l none. h.deaths d l (names d.process d.object none);
-  notices = λ w o l k none. h.notices w o l k (objects o none);
-  tellings = h.tellings;
-  made = λ x l none wants. h.made x l (objects x.id none) wants;
-}
+more_elsewhere a c b e z names objects h = search arith
 
 -- who has a name by the reference of a buffer receives it
 window_name : (q made : ℕ) (h : Holder) → is_of_buffer made h ≡ true → gives_name_to q h ≡ true → h ≡ Carried made q
-window_name q made (Carried b p) e f = ap (λ n. Carried n p) (eqb-true b made e) ∙ ap (Carried made) (eqb-true p q f)
-window_name q made (Target b p) e f = absurd (cc)
-window_name q made (Asked p) e f = absurd (cc)
-window_name q made Handshake e f = absurd (cc)
-window_name q made Manager e f = absurd (cc)
+window_name q made h e f = search (arith, eqb-true)
 
 module _ (s : Space) (p made : ℕ) (os : List Identity) (k : IsFreeing p made os s) where
   referred_object : (o : Identity) → objects_of_references (references_of_buffer s made) o ≡ true → is_among os o ≡ true

@@ -1,5 +1,5 @@
 -- What is gathered before an exit: one thing after the other, and then all that the exit touches.
-use Rattle.bd_step.proofs.Words.{Bool, Exit, Frame, Grows, HasAll, HasFrame, HasList, HasObject, HasProcess, HasThread, HasThreads, HasWork, Identity, In, List, None, Object, OfProcess, OfThread, Option, Reference, Some, Space, TodoList, Work, WorkKind, [], any_found, any_in, ap, append-nil, both, buffer_of_holder, drop, eq-eqb, eq_same, eqb-true, false, filter, filter_in, frames_ended, frames_left}
+use Rattle.bd_step.proofs.Words.{arith, Bool, Exit, Frame, Grows, HasAll, HasFrame, HasList, HasObject, HasProcess, HasThread, HasThreads, HasWork, Identity, In, List, None, Object, OfProcess, OfThread, Option, Reference, Some, Space, TodoList, Work, WorkKind, [], any_found, any_in, ap, append-nil, both, buffer_of_holder, drop, eq-eqb, eq_same, eqb-true, false, filter, filter_in, frames_ended, frames_left}
 use Rattle.bd_step.proofs.Words.{get_or, hands_out, in_map, inl, inr, is_among, is_call, is_dropped_with, is_frame, is_left_frame, is_lost_reference, is_lost_with, is_notice, is_of_buffer, is_on, is_place_among, is_some_and, is_unread_on, left_frames, left_objects, length, list_any, list_any-append, lists_in, lost_with_process, map, map_in, objects_ended, objects_left, or_left, or_right, owned_in, refl}
 use Rattle.bd_step.proofs.{Words.{same, same_eq, seats_in, serves, slice_get, slice_get-get_or, subst, sym, true, ℕ, ◌&&◌, ◌++◌, ◌+◌, ◌<◌, ◌==◌, ◌||◌, ◌∙◌, ◌∷◌, ◌≡◌, ◌⊎◌}, TakingItems.{one_left}}
 use Rattle.bd_space.specs.declared.space.WorkKind.TheVariants as work
@@ -19,14 +19,7 @@ module _ {A : Type 0} where
   until_none P xs x l = inr l
 
   pub besides_next : (P Q : A → Type 0) (xs before rest : List A) (y : A) → before ≡ y ∷ rest → Besides P xs before → ((x : A) → P x → Q x) → Q y → Besides Q xs rest
-  besides_next P Q xs before rest y e h more is x l = elim (h x l) [
-    | inl a ↦ inl (more x a)
-    | inr i ↦ at (subst (In x) e i)
-  ]
-    where
-      at : In x (y ∷ rest) → Q x ⊎ In x rest
-      at (inl same) = inl (subst Q same is)
-      at (inr i) = inr i
+  besides_next P Q xs before rest y e h more is x l = search (arith, more, is)
 
   pub until_next : (P Q : A → Type 0) (xs : List A) (k : ℕ) (y : A) → slice_get xs k ≡ Some y → Until P xs k → ((x : A) → P x → Q x) → Q y → Until Q xs (k + 1)
   until_next P Q xs k y e h more is = besides_next P Q xs (drop k xs) (drop (k + 1) xs) y (one_left xs k y e) h more is
@@ -67,17 +60,10 @@ grows_by x y os ms e f = record {
 }
 
 pub more_work : (x y : Exit) (s : Space) (kind : WorkKind) → Grows x y → HasWork x s kind → HasWork y s kind
-more_work x y s kind h k = record {
-  notice = λ o e. h.objects o (k.notice o e);
-  handed = λ b r e l i. h.objects r.object (k.handed b r e l i);
-  call = λ m e. h.frames m (k.call m e);
-}
+more_work x y s kind h k = search arith
 
 pub more_thread : (x y : Exit) (s : Space) (seat : ℕ) → Grows x y → HasThread x s seat → HasThread y s seat
-more_thread x y s seat h k = record {
-  list = λ w l. more_work x y s w.kind h (k.list w l);
-  served = λ f l e. h.frames f.made (k.served f l e);
-}
+more_thread x y s seat h k = search (arith, more_work)
 
 -- ---- an item
 
@@ -152,12 +138,7 @@ pub grows_as : (x y : Exit) → is_among y.objects.items ≡ is_among x.objects.
 grows_as x y e f = record { objects = λ o h. ap (λ b. b o) e ∙ h; frames = λ m h. ap (λ ms. is_place_among ms m) f ∙ h }
 
 pub more_process : (x y : Exit) (s : Space) (seats : List ℕ) (p : ℕ) → Grows x y → HasProcess x s seats p → HasProcess y s seats p
-more_process x y s seats p h k = record {
-  threads = λ t l. more_thread x y s t h (k.threads t l);
-  list = λ w l. more_work x y s w.kind h (k.list w l);
-  owned = λ o l e. h.objects o.id (k.owned o l e);
-  dropped = λ r l e. h.objects r.object (k.dropped r l e);
-}
+more_process x y s seats p h k = search (arith, more_work, more_thread)
 
 -- ---- all that an exit touches
 

@@ -36,7 +36,7 @@ neither : (b c : Bool) → not (b || c) ≡ (not b && not c)
 neither b c = search arith
 
 apart : (m n : ℕ) (b : Bool) → not ((m == n) || b) ≡ (not (n == m) && not b)
-apart m n b = ap (λ c. not (c || b)) (swap m n) ∙ neither (n == m) b
+apart m n b = search (rules, tests)
 
 apart_held : (made : ℕ) (o : Option ℕ) (lost : ℕ → Bool)
     → not (is_some_and o (λ b. (made == b) || lost b)) ≡ (not (is_some_and o (λ c. c == made)) && not (is_some_and o lost))

@@ -1,7 +1,7 @@
 -- Of an object that a parcel makes nothing follows: the buffer refers to it, and its Notice has just been made.
 use Rattle.bd_step.proofs.Words.{Actor, Bool, Delivers, Delivery, Earlier, Elsewhere, Frame, Identity, In, IsFollowed, Item, KeptBefore, List, None, Object, ObjectTest, OfThread, Option, Pairs, Reference, Some, Space, TransactionData, Work, [], add_buffer, add_notice, any_found, any_in, any_more, ap, are_known_before, arith, assign_numbers, buffer_of, buffer_references, call_out, called, closed, cond}
 use Rattle.bd_step.proofs.Words.{cons_option, delivered, delivered_elsewhere, eq_same, eqb-true, false, filter_map, find_in, find_only, fold, fold_keeps, follow_local, follow_of, goes_to, has_notice_in, held_in, in_filter, in_last, in_order_differ, in_push, inl, inr, is_among, is_notice, is_own, is_some_and, is_spam, known_before, length, list_any-append, lives_in, make_objects, no_name, not}
-use Rattle.bd_step.proofs.Words.{notice_keeps, object_in, objects_of_items, or-true, owe, owe_elsewhere, own_notices, refer, refl, replied, ripen_next, ripen_of_elsewhere, same, same_eq, sent_notices_keep, subst, sym, told_keeps, transacted, true, wants_notice, with_carried, with_notice, with_work, ℕ, ◌&&◌, ◌++◌, ◌+◌, ◌==◌, ◌||◌, ◌∙◌, ◌∷◌, ◌≡◌, ◌≤◌, ◌⊎◌}
+use Rattle.bd_step.proofs.Words.{notice_keeps, object_in, objects_of_items, or-true, owe, owe_elsewhere, own_notices, refer, refl, replied, ripen_next, ripen_of_elsewhere, same, same_eq, sent_notices_keep, subst, sym, told_keeps, transacted, true, wants_notice, with_carried, with_notice, with_work, ℕ, ◌&&◌, ◌++◌, ◌+◌, ◌||◌, ◌∙◌, ◌∷◌, ◌≡◌, ◌≤◌, ◌⊎◌}
 use Rattle.bd_space.specs.declared.space.WorkKind.TheVariants as work
 
 -- ---- what is sent is known before, or made
@@ -11,13 +11,7 @@ abbrev IsMade : ℕ → List Item → Identity → Type 0
 IsMade place items o = (i : Item) × In i items × (i.object ≡ o) × (is_own i.flat.kind ≡ true) × (i.object.place ≡ place)
 
 known_or_made : (place : ℕ) (i : Item) → (known_before place i ≡ Some i.object) ⊎ ((is_own i.flat.kind ≡ true) × (i.object.place ≡ place))
-known_or_made place i = at (is_own i.flat.kind) refl (i.object.place == place) refl
-  where
-    at : (a : Bool) → is_own i.flat.kind ≡ a → (b : Bool) → (i.object.place == place) ≡ b
-        → (cond (a && b) None (Some i.object) ≡ Some i.object) ⊎ ((a ≡ true) × (i.object.place ≡ place))
-    at true e true f = inr (refl, eqb-true i.object.place place f)
-    at true e false f = inl refl
-    at false e b f = inl refl
+known_or_made place i = search (arith, eqb-true)
 
 known_in : (place : ℕ) (items : List Item) (i : Item) → In i items → known_before place i ≡ Some i.object → are_known_before place items i.object ≡ true
 known_in place [] i l e = absurd l
@@ -33,11 +27,7 @@ known_in place (x ∷ xs) i l e = at (known_before place x) refl l (λ m. known_
 -- they are no more than all that is sent
 pub known_few : (place : ℕ) (items : List Item) → length (filter_map (known_before place) items) ≤ length items
 known_few place [] = omega arith
-known_few place (x ∷ xs) = at (known_before place x) (known_few place xs)
-  where
-    at : (f : Option Identity) → length (filter_map (known_before place) xs) ≤ length xs → length (cons_option f (filter_map (known_before place) xs)) ≤ length {A = Item} (x ∷ xs)
-    at None le = omega (arith, le)
-    at (Some o) le = omega (arith, le)
+known_few place (x ∷ xs) = grind (arith, known_few place xs)
 
 sent_apart : (place : ℕ) (items : List Item) (o : Identity) → are_known_before place items o ≡ false → (objects_of_items items o ≡ false) ⊎ IsMade place items o
 sent_apart place items o none = at (objects_of_items items o) refl

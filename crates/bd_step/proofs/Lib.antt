@@ -8,7 +8,6 @@ pub mod Gathering
 pub mod Exiting
 pub mod Living
 pub mod Ending
-pub mod Acting
 pub mod Changing
 pub mod Accepting
 pub mod Owing

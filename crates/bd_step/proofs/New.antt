@@ -1,11 +1,10 @@
 -- What a step takes in is new, and what it refers to is there, by what holds between two steps.
 use Rattle.bd_step.proofs.Words.{AlreadyAsked, AreNewIn, Bool, CanSend, Delivery, Fault, FlatObject, Here, Identity, In, IsAsked, IsAsking, IsNewDeath, IsNewIn, IsNewManager, IsQueued, IsTidy, Item, List, Made, NoSuchNumber, None, Object, Ok, Option, Parcel, Resolved, Sending, Some, Space, TransactionData, [], and_then_ok, ap, append-nil, append_assoc, arith, asked_found, asked_others, carried_found}
-use Rattle.bd_step.proofs.Words.{eqb-true, false, find, find_none, first_of, here_found, in_append, in_left, inl, inr, is_manager_busy, is_notification, is_pid, is_some, is_window, length, named, new_object, none_made, not, object_in, ok_or, open_fault, option_to_list, own_in, process_with_pid, refl, request_check, resolve, resolved_by, resolves, same, same_eq, sending_keeps, sending_of, sending_sends}
-use Rattle.bd_step.proofs.Words.{subst, sym, thread_in, to_false, true, uncleared_in, unless, unless_ok, when, when_none, ℕ, ◌++◌, ◌==◌, ◌||◌, ◌∷◌, ◌≡◌}
+use Rattle.bd_step.proofs.Words.{eqb-true, false, find, find_none, first_of, here_found, in_append, in_left, inl, inr, is_manager_busy, is_notification, is_pid, is_some, is_window, length, named, new_object, none_made, not, object_in, ok_or, open_fault, option_to_list, own_in, process_with_pid, request_check, resolve, resolved_by, resolves, same, same_eq, sending_keeps, sending_of, sending_sends}
+use Rattle.bd_step.proofs.Words.{subst, sym, thread_in, to_false, uncleared_in, unless, unless_ok, when, when_none, ℕ, ◌++◌, ◌==◌, ◌||◌, ◌∷◌, ◌≡◌}
 
 pub is_none : {A : Type 0} (o : Option A) → is_some o ≡ false → o ≡ None
-is_none None h = refl
-is_none (Some x) h = absurd (cc)
+is_none o h = search arith
 
 -- ---- objects
 
@@ -76,8 +75,7 @@ asks_for s place managed p o strong at manages k = record {
 -- ---- the context manager
 
 busy_parts : (a b : Bool) → (a || b) ≡ false → b ≡ false
-busy_parts true b h = absurd (cc)
-busy_parts false b h = h
+busy_parts a b h = search arith
 
 pub new_manager : (s : Space) (place p : ℕ) → s.steps ≡ place → IsTidy s → is_manager_busy s p ≡ false → IsNewManager place p s
 new_manager s place p at tidy idle = record {
@@ -108,11 +106,7 @@ new_death s place p n o at tidy check =
 -- ---- processes
 
 unfaulted : (a b c d : Bool) (w x y z : Fault) → first_of (when a w ∷ when b x ∷ when c y ∷ when d z ∷ []) ≡ None → (c ≡ false) × (d ≡ false)
-unfaulted true b c d w x y z e = absurd (cc)
-unfaulted false true c d w x y z e = absurd (cc)
-unfaulted false false true d w x y z e = absurd (cc)
-unfaulted false false false true w x y z e = absurd (cc)
-unfaulted false false false false w x y z e = (refl, refl)
+unfaulted a b c d w x y z e = search arith
 
 module _ (s : Space) (seat pid window : ℕ) (e : open_fault s seat pid window ≡ None) where
   free : (is_some (thread_in s.threads seat) ≡ false) × (is_some (process_with_pid s.processes pid) ≡ false)

@@ -1,6 +1,6 @@
 -- The seat of a step.
-use Rattle.bd_step.proofs.Words.{Actor, Attach, ExitProcess, ExitThread, IsBy, IsTidy, NoProcess, None, Open, Option, Process, Read, SetManager, SetSpam, Some, Space, Step, Thread, actor, actor_of, ap, by_actor, change, command_step, eqb-true, exit_process_step, exit_thread_step, manager_step, none-some, option_and_then, option_map, process_in, read_step, refl, refused, spam_step, subst, sym, thread_in}
-use Rattle.bd_step.proofs.{Words.{ℕ, ◌==◌, ◌∙◌, ◌≡◌}, Finding.{found_passes}}
+use Rattle.bd_step.proofs.Words.{actor_acts, Actor, Attach, ExitProcess, ExitThread, IsBy, IsTidy, NoProcess, None, Open, Read, SetManager, SetSpam, Some, Space, Step, actor, ap, by_actor, change, command_step, exit_process_step, exit_thread_step, manager_step, read_step, refl, refused, spam_step, subst, sym}
+use Rattle.bd_step.proofs.Words.{ℕ, ◌≡◌}
 use Rattle.bd_space.specs.declared.step.Step.TheVariants.{Command}
 
 -- a seat without a live thread can only open and attach
@@ -18,19 +18,5 @@ nobody_changes s seat ExitProcess k l e = ap (λ o. by_actor s o (exit_process_s
 
 -- ---- the actor of a seat sits there
 
-with_process : (t : Thread) (o : Option Process) (a : Actor) → option_map (λ q. record { thread = t; process = q }) o ≡ Some a → a.thread ≡ t
-with_process t None a e = absurd (none-some a e)
-with_process t (Some q) a e = cc
-
-of_thread : (s : Space) (seat : ℕ) (o : Option Thread) (a : Actor) → thread_in s.threads seat ≡ o → option_and_then (actor_of s) o ≡ Some a → a.thread.seat ≡ seat
-of_thread s seat None a e f = absurd (none-some a f)
-of_thread s seat (Some t) a e f =
-    let sits = eqb-true t.seat seat (found_passes (λ (x : Thread). x.seat == seat) s.threads t e) in
-    ap (λ (x : Thread). x.seat) (with_process t (process_in s.processes t.process) a f) ∙ sits
-
-pub sits : (s : Space) (seat : ℕ) (a : Actor) → actor s seat ≡ Some a → a.thread.seat ≡ seat
-unfolding actor
-sits s seat a e = of_thread s seat (thread_in s.threads seat) a refl e
-
 pub acting_seat : (s : Space) (seat : ℕ) (a : Actor) (x : Step) → actor s seat ≡ Some a → IsTidy s → IsBy a s × (change s seat x ≡ change s a.thread.seat x)
-acting_seat s seat a x e q = let same = sym (sits s seat a e) in (record { acts = subst (λ n. actor s n ≡ Some a) same e; tidy = q }, ap (λ n. change s n x) same)
+acting_seat s seat a x e q = let same = sym (actor_acts s seat a e).seat in (record { acts = subst (λ n. actor s n ≡ Some a) same e; tidy = q }, ap (λ n. change s n x) same)

@@ -1,6 +1,6 @@
 -- The objects of a parcel, one resolved after the other.
-use Rattle.bd_step.proofs.Words.{All, All-append, Cause, Err, FlatObject, IfOk, IfOk-weaker, Item, List, None, Object, Ok, Option, Parcel, Resolved, Result, Sending, Some, Space, StandsAt, Tables, TransactionData, [], add-one, and_then, ap, arith, drop, drop-cons, drop_of_length-le, eq-eqb, fault_in, get_or, has_sizes, length, length-append, object_at, object_at_index, objects_at, offsets_in}
-use Rattle.bd_step.proofs.Words.{option_to_list, refl, resolve, resolve_all, resolve_walked, sending_of, slice_get, slice_get_within, suc, sym, true, unwrap_or, unwrap_or-slice_get, zero, ℕ, ◌%◌, ◌++◌, ◌+◌, ◌<◌, ◌∙◌, ◌∷◌, ◌≡◌, ◌≤◌}
+use Rattle.bd_step.proofs.Words.{Cause, Err, FlatObject, IfOk, IfOk-weaker, Item, List, None, Object, Ok, Option, Parcel, Resolved, Result, Sending, Some, Space, StandsAt, Tables, TransactionData, [], add-one, and_then, ap, arith, drop, drop-cons, drop_of_length-le, eq-eqb, fault_in, get_or, has_sizes, length, length-append, object_at, object_at_index, objects_at, offsets_in}
+use Rattle.bd_step.proofs.Words.{option_to_list, refl, resolve, resolve_all, resolve_walked, sending_of, slice_get, slice_get_within, suc, sym, true, unwrap_or, unwrap_or-slice_get, ℕ, ◌%◌, ◌++◌, ◌+◌, ◌∙◌, ◌∷◌, ◌≡◌, ◌≤◌}
 
 next : (os : List ℕ) (k start : ℕ) → slice_get os k ≡ Some start → drop k os ≡ start ∷ drop (k + 1) os
 next os k start at =
@@ -39,10 +39,6 @@ module _ (s : Space) (p : ℕ) (bytes offsets : List ℕ) where
   pub resolved_all : (base : Result Sending Cause) (made : List Object) (items : List Item) (os : List ℕ) (k : ℕ) → length os ≤ k
       → resolve_all s p bytes offsets made items (drop k os) ≡ base → Ok (record { bytes = bytes; offsets = offsets; made = made; items = items }) ≡ base
   resolved_all base made items os k le e = ap (resolve_all s p bytes offsets made items) (sym (drop_of_length-le os le)) ∙ e
-
--- one more element of which P holds
-pub All_push : {X : Type 0} (P : X → Type 0) (xs : List X) (x : X) → All P xs → P x → All P (xs ++ x ∷ [])
-All_push P xs x all here = All-append P xs (x ∷ []) all (λ k d lt. elim k as (λ (j : ℕ). j < 1 → P (get_or (x ∷ []) j d)) [ zero ↦ λ _. here | suc j ↦ λ h. absurd (omega (arith, h)) ] lt)
 
 option_short : {X : Type 0} (o : Option X) → length (option_to_list o) ≤ 1
 option_short None = omega arith

@@ -1,5 +1,5 @@
 -- Between two steps a thread's innermost frame is its newest.
-use Rattle.bd_step.proofs.Words.{Bool, Frame, In, IsAfter, IsFramed, IsStacked, IsTidy, List, None, Option, Some, Space, TakesCalls, [], ap, arith, cond, false, filter, find, inl, innermost_last, inr, last_of, refl, reverse, reverse-append, suc, sym, takes_part, true, ℕ, ◌++◌, ◌<◌, ◌∙◌, ◌∷◌, ◌≡◌, ◌≤◌}
+use Rattle.bd_step.proofs.Words.{Bool, Frame, In, IsAfter, IsFramed, IsStacked, IsTidy, List, None, Option, Some, Space, TakesCalls, [], arith, cond, filter, find, inl, innermost_last, inr, last_of, refl, reverse, reverse-append, suc, takes_part, ℕ, ◌++◌, ◌<◌, ◌∙◌, ◌∷◌, ◌≡◌, ◌≤◌}
 
 abbrev or_else : Option Frame → Option Frame → Option Frame
 or_else None o = o
@@ -11,30 +11,17 @@ or_none (Some f) = refl
 
 last_more : (f : Frame) (fs : List Frame) → last_of (f ∷ fs) ≡ or_else (last_of fs) (Some f)
 last_more f [] = refl
-last_more f (g ∷ gs) = let e = last_more g gs in e ∙ sym (kept (last_of gs)) ∙ ap (λ o. or_else o (Some f)) (sym e)
-  where
-    kept : (o : Option Frame) → or_else (or_else o (Some g)) (Some f) ≡ or_else o (Some g)
-    kept None = refl
-    kept (Some x) = refl
+last_more f (g ∷ gs) = grind (arith, last_more g gs, last_more f gs)
 
 module _ (p : Frame → Bool) where
   find_push : (fs : List Frame) (f : Frame) → find p (fs ++ f ∷ []) ≡ or_else (find p fs) (cond (p f) (Some f) None)
   find_push [] f = refl
-  find_push (g ∷ gs) f = at (p g) (find_push gs f)
-    where
-      at : (b : Bool) → find p (gs ++ f ∷ []) ≡ or_else (find p gs) (cond (p f) (Some f) None)
-          → cond b (Some g) (find p (gs ++ f ∷ [])) ≡ or_else (cond b (Some g) (find p gs)) (cond (p f) (Some f) None)
-      at true h = refl
-      at false h = h
+  find_push (g ∷ gs) f = grind (arith, find_push gs f)
 
   -- the last of those that pass is the first from behind
   last_newest : (fs : List Frame) → last_of (filter p fs) ≡ find p (reverse fs)
   last_newest [] = refl
-  last_newest (f ∷ fs) = at (p f) (last_newest fs) ∙ sym (find_push (reverse fs) f) ∙ ap (find p) (sym (reverse-append (f ∷ []) fs))
-    where
-      at : (b : Bool) → last_of (filter p fs) ≡ find p (reverse fs) → last_of (cond b (f ∷ filter p fs) (filter p fs)) ≡ or_else (find p (reverse fs)) (cond b (Some f) None)
-      at true h = last_more f (filter p fs) ∙ ap (λ o. or_else o (Some f)) h
-      at false h = h ∙ sym (or_none (find p (reverse fs)))
+  last_newest (f ∷ fs) = grind (arith, last_newest fs, find_push (reverse fs) f, reverse-append (f ∷ []) fs, last_more f (filter p fs))
 
 pub tidy_stacked : (s : Space) → IsTidy s → IsStacked s
 tidy_stacked s tidy seat = innermost_last s tidy seat ∙ last_newest (takes_part seat) s.frames

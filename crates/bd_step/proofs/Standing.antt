@@ -1,5 +1,5 @@
 -- How tables go on standing for a space.
-use Rattle.bd_step.proofs.Words.{Before, Bool, CallTable, DeadReply, Frame, None, OfThread, Option, ProcessesAre, Some, Space, Tables, Verdict, WindowsOf, Within, WorkKind, [], ap, close_among, close_up, closed, completed, deaths_go, find, follow, has_number_past_limit, is_abandoned, is_frame, is_some_and, length, names_go, notify, objects_go, owe, refl, ripen, settle, settle_one, settle_times}
+use Rattle.bd_step.proofs.Words.{arith, settle_keeps, Before, Bool, CallTable, DeadReply, Frame, None, OfThread, Option, ProcessesAre, Some, Space, Tables, Verdict, WindowsOf, Within, WorkKind, [], ap, close_among, close_up, closed, completed, deaths_go, find, follow, has_number_past_limit, is_abandoned, is_some_and, length, names_go, notify, objects_go, owe, refl, ripen, settle}
 use Rattle.bd_step.proofs.Words.{stands_in, subst, suc, sym, tell_caller, true, work_goes, zero, ℕ, ◌&&◌, ◌+◌, ◌==◌, ◌||◌, ◌∙◌, ◌≡◌}
 use Rattle.bd_calls.specs.Stands as calls
 use Rattle.bd_objects.specs.Stands as objects
@@ -7,12 +7,7 @@ use Rattle.bd_objects.specs.Stands as objects
 -- ---- from before a step into it
 
 pub within : (t : Tables) (s : Space) → Before t s → Within t s
-within t s h = record {
-  own = h.own;
-  objects_stand = h.objects_stand;
-  calls_stand = h.calls_stand;
-  windows_stand = stands_in t.windows s h.windows_stand;
-}
+within t s h = search (arith, stands_in)
 
 -- ---- settling changes frames and work items alone
 
@@ -24,27 +19,13 @@ unfolding rest closed owe
 told_rest s made None kind = refl
 told_rest s made (Some t) kind = refl
 
-one_rest : (s : Space) (o : Option Frame) → rest (settle_one s o) ≡ rest s
-one_rest s None = refl
-one_rest s (Some f) = told_rest s f.made f.caller (Verdict DeadReply)
-
-times_rest : (n : ℕ) (s : Space) → rest (settle_times n s) ≡ rest s
-times_rest zero s = refl
-times_rest (suc n) s = one_rest (settle_times n s) (find (is_abandoned (settle_times n s).frames) (settle_times n s).frames) ∙ times_rest n s
-
 settle_rest : (s : Space) → rest (settle s) ≡ rest s
-unfolding settle
-settle_rest s = times_rest (length s.frames) s
+settle_rest s = settle_keeps (λ z. rest z ≡ rest s) (λ z f e h. told_rest z f.made f.caller (Verdict DeadReply) ∙ h) s refl
 
 up_rest : (n : ℕ) (made : Option ℕ) (s : Space) → rest (close_up n made s) ≡ rest s
 up_rest zero made s = refl
 up_rest (suc n) None s = refl
-up_rest (suc n) (Some m) s = at (find (λ (f : Frame). is_frame m f && is_abandoned s.frames f) s.frames) (λ p z. up_rest n p z)
-  where
-    at : (o : Option Frame) → ((p : Option ℕ) (z : Space) → rest (close_up n p z) ≡ rest z)
-        → rest (elim o as (λ (o : Option Frame). Space) [ None ↦ s | Some f ↦ close_up n f.parent (tell_caller (closed s f.made) f (Verdict DeadReply)) ]) ≡ rest s
-    at None more = refl
-    at (Some f) more = more f.parent (tell_caller (closed s f.made) f (Verdict DeadReply)) ∙ told_rest s f.made f.caller (Verdict DeadReply)
+up_rest (suc n) (Some m) s = grind (arith, up_rest n, told_rest)
 
 among_rest : (n : ℕ) (c : ℕ → Bool) (s : Space) → rest (close_among n c s) ≡ rest s
 among_rest zero c s = refl

@@ -1,4 +1,4 @@
-use Rattle.bd_step.proofs.{Words.{AreTouched, Bool, Buffer, Err, None, NotHandedOut, NotLater, Note, Ok, Option, Outcome, Pairs, Result, Some, Space, Within, accepted, ap, buffer_at_pointer, false, free_outcome, free_step, freed_buffer, if◌then◌else◌, is_among, noted, referred, refl, subst, sym, true, without_buffer, ℕ, ◌∙◌, ◌≡◌}, Accepting.{notes}, Acting.{process_of}, Freeing.{buffer_freed}}
+use Rattle.bd_step.proofs.{Words.{actor_acts, AreTouched, Bool, Buffer, Err, None, NotHandedOut, NotLater, Note, Ok, Option, Outcome, Pairs, Result, Some, Space, Within, accepted, ap, buffer_at_pointer, false, free_outcome, free_step, freed_buffer, if◌then◌else◌, is_among, noted, referred, refl, subst, sym, true, without_buffer, ℕ, ◌∙◌, ◌≡◌}, Accepting.{notes}, Freeing.{buffer_freed}}
 use Rattle.bd_step.proofs.{Meeting.{taken_step, meets}, Standing.{within}}
 use Rattle.bd_step.proofs.tables.Tables.free.Goals as goal
 
@@ -24,7 +24,7 @@ unfolding free_step
 returns-in-Err-clause-step c = taken_step _ _ _ _ _ (
     notes _ _ _ _ (λ s h by.
     let p = c.args.actor.process.made in
-    let checked = c.in-Err.ensures s c.args.actor.process (within c.args.self.now s h) (process_of s c.args.actor.thread.seat c.args.actor by.acts) in
+    let checked = c.in-Err.ensures s c.args.actor.process (within c.args.self.now s h) (actor_acts s c.args.actor.thread.seat c.args.actor by.acts).found in
     sym (ap (freed_outcome s) checked ∙ by_check s (buffer_at_pointer s p c.args.pointer))))
 
 pub returns-clause-step : goal.returns-clause-step
@@ -35,7 +35,7 @@ returns-clause-step c =
     record {
       ok =
           meets _ _ _ _ _ (λ s h by.
-          let checked = c.in-Ok.ensures s c.args.actor.process (within c.args.self.now s h) (process_of s c.args.actor.thread.seat c.args.actor by.acts) in
+          let checked = c.in-Ok.ensures s c.args.actor.process (within c.args.self.now s h) (actor_acts s c.args.actor.thread.seat c.args.actor by.acts).found in
           let is = ap (freed_outcome s) checked ∙ by_check s (buffer_at_pointer s p c.args.pointer) in
           let b = buffer_freed s p c.args.pointer made checked in
           record {

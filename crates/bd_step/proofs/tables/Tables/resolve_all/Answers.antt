@@ -1,4 +1,5 @@
-use Rattle.bd_step.proofs.{Words.{All, FlatObject, IsInside, List, ap, arith, as_many_objects, length, offsets_in, slice_get, subst, sym, ℕ, ◌+◌, ◌∙◌, ◌≤◌}, Sendings.{resolved_more, resolved_stops, resolved_all, All_push, length_option}}
+use Rattle.bd_step.proofs.{Words.{All, FlatObject, IsInside, List, ap, arith, as_many_objects, length, offsets_in, slice_get, subst, sym, ℕ, ◌+◌, ◌∙◌, ◌≤◌}, Sendings.{resolved_more, resolved_stops, resolved_all, length_option}}
+use Rattle.std.proofs.lemmas.List.Elements.{All-push}
 use Rattle.bd_step.proofs.tables.Tables.resolve_all.Goals as goal
 
 pub returns-in-Err-clause-computed : goal.returns-in-Err-clause-computed
@@ -18,7 +19,7 @@ loop-k-preserved c = record {
   few = length_option _ _ _ _ c.in_ok-add-in-Ok.ensures.made c.loop-k.invariant.few;
   inside =
       let inside : c.get-x.result.start + 24 ≤ length c.args.parcel.now.bytes = omega (arith, c.get-x.ensures.inside, ap (λ (bs : List ℕ). length bs) c.requires.bytes) in
-      subst (All (IsInside c.args.parcel.now.bytes)) (sym c.in_ok-add-in-Ok.ensures.items) (All_push (IsInside c.args.parcel.now.bytes) _ _ c.loop-k.invariant.inside inside);
+      subst (All (IsInside c.args.parcel.now.bytes)) (sym c.in_ok-add-in-Ok.ensures.items) (All-push (IsInside c.args.parcel.now.bytes) _ _ c.loop-k.invariant.inside inside);
 }
 
 pub returns-clause-computed : goal.returns-clause-computed
