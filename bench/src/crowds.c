@@ -5,9 +5,10 @@
        crowds CROWD NUMBER ROUNDS [stay]
 
    So many of the crowd stand first. A round is what the context manager's thread does with another process: a one-way call, and a call
-   that is answered; where calls are queued, one more of these is made, and the oldest read, too. `round_of` alone makes it. At the end the
-   crowd has to be there still: its last comers leave, reply, are read, let go of or freed. Then all that is left goes at once: the crowd's
-   process ends, and the context manager; unless it is to stay, as only rounds are counted. */
+   that is answered; where calls are queued, one more of these is made, and the oldest read, too; where holes are, one in their midst is filled
+   and emptied. `round_of` alone makes it. At the end the crowd has to be there still: its last comers leave, reply, are read, let go of or
+   freed. Then all that is left goes at once: the crowd's process ends, and the context manager; unless it is to stay, as only rounds are
+   counted. */
 #include "../../tools/asking.h"
 
 #include <stdio.h>
@@ -130,6 +131,18 @@ static bool unfreed(uint32_t number)
     return good;
 }
 
+/* Buffers in the manager's window with a hole behind each: of 8 bytes, as an empty parcel takes, but for one in the midst, which has three times
+   as many. */
+enum { WIDE_HOLE = 24 };
+
+static bool holes(uint32_t number)
+{
+    bool good = unfreed(number);
+    for (uint32_t i = 1; good && i < number; i += 2)
+        good = frees(&live, MANAGER, buffers[i]);
+    return good && frees(&live, MANAGER, buffers[number / 4 * 2]);
+}
+
 /* ---- that it stands still */
 
 /* So many of those that came last are looked at, at most. */
@@ -198,6 +211,15 @@ static bool free_last(uint32_t number)
     bool good = true;
     for (uint32_t i = number - looked_at(number); good && i < number; i++)
         good = frees(&live, MANAGER, buffers[i]);
+    return good;
+}
+
+/* The last buffers that are there still are freed. */
+static bool free_last_of_holes(uint32_t number)
+{
+    bool good = true;
+    for (uint32_t i = (number - looked_at(number)) / 2 * 2; good && i < number; i += 2)
+        good = i == number / 4 * 2 || frees(&live, MANAGER, buffers[i]);
     return good;
 }
 
@@ -276,6 +298,14 @@ static bool queues_one_more(void)
     return calls(&live, CLIENT, 0, HULLPIPPIN_TF_ONE_WAY) && reads(&live, CLIENT) && takes_and_frees(MANAGER) && calls_server();
 }
 
+/* A parcel that fits the wide hole alone, so that this goes and comes between two others; then one that takes the first hole. */
+static bool fills_the_wide_hole(void)
+{
+    static uint8_t bytes[WIDE_HOLE];
+    hullpippin_command send = {.code = HULLPIPPIN_BC_TRANSACTION, .transaction = {.flags = HULLPIPPIN_TF_ONE_WAY, .data_size = WIDE_HOLE}};
+    return runs(&live, CLIENT, &send, bytes) && reads(&live, CLIENT) && takes_and_frees(MANAGER) && calls_server();
+}
+
 /* The parcel of a round: so many objects, and where each lies. */
 enum { MOST_OBJECTS = 8192 };
 
@@ -338,6 +368,7 @@ static const struct {
     {"callers", callers, calls_server, leave, rest_goes},     {"nested", nested, calls_server, unwind, both_go},
     {"queued", queued, queues_one_more, drain, client_goes}, {"kept", kept, calls_server, let_go, both_go},
     {"watched", watched, calls_server, take_back, deaths_are_told}, {"unfreed", unfreed, calls_server, free_last, client_goes},
+    {"holes", holes, fills_the_wide_hole, free_last_of_holes, client_goes},
     {"parcel", parcels, sends_parcel, nothing_is_left, client_goes},
 };
 
