@@ -201,7 +201,7 @@ def fair(build):
 
 # of the processor's time that it takes to close what a client leaves a thread that others wait for may take such a part; and that is more
 # than so many seconds
-LETTING_GO, MUCH = 0.1, 0.02
+LETTING_GO, MUCH, COSTLY_TRIES = 0.1, 0.02, 3
 
 
 def device_time(pid, thread):
@@ -225,19 +225,25 @@ def used_for_closing(pid, before):
     return used - before
 
 
+def closed(build, words):
+    """Seconds of processor time that it takes a thread for which clients wait to close what one has left, and the daemon all together."""
+    with Stage(build) as stage:
+        pid = stage.daemon.pid
+        before, used, all_used = set(os.listdir(f"/proc/{pid}/task")), device_time(pid, pid), processor_time(pid)
+        stage.start([build.fuzz("costly"), *words], client=False).wait_for("ready", 30)
+        # The first that came is the device's; those behind it close what was left.
+        thread = pid if words else min(set(os.listdir(f"/proc/{pid}/task")) - before, key=lambda it: begun_at(pid, it))
+        all_took = used_for_closing(pid, all_used)
+        return device_time(pid, thread) - (used if words else 0), all_took
+
+
 @test("raw costly ends", plain_only=True)
 def costly(build):
     """What takes its time to be closed is closed by no thread that a client waits for."""
     told = []
     for whose, words in (("the device's thread", []), ("that which takes connections", ["control"])):
-        with Stage(build) as stage:
-            pid = stage.daemon.pid
-            before, used, all_used = set(os.listdir(f"/proc/{pid}/task")), device_time(pid, pid), processor_time(pid)
-            program = stage.start([build.fuzz("costly"), *words], client=False).wait_for("ready", 30)
-            # The first that came is the device's; those behind it close what was left.
-            thread = pid if words else min(set(os.listdir(f"/proc/{pid}/task")) - before, key=lambda it: begun_at(pid, it))
-            all_took = used_for_closing(pid, all_used)
-            took = device_time(pid, thread) - (used if words else 0)
+        # Once, on a busy machine, the daemon had used no time at all when it rested. Then there is nothing to judge, and another client comes.
+        took, all_took = next(((one, every) for one, every in (closed(build, words) for _ in range(COSTLY_TRIES)) if every > MUCH), (0, 0))
         told.append(f"{whose} took {took * 1e3:.1f} of {all_took * 1e3:.0f} ms")
         expect(all_took > MUCH and took < LETTING_GO * all_took, f"{told[-1]} to let go of what it was left")
     return f"{', '.join(told)} to let go of much memory, and of sockets with many connections"
